@@ -1,0 +1,89 @@
+-- "A host written in Rust or C calls the core with numbers and byte buffers only": the definitions that public promises cite. Each tests
+-- the sizes of what it is lent, gives everything back unchanged where one is wrong, and else hands over to the definition on pages.
+use Rattle.rules.specs.Words.{ℕ, zero, suc, _*_, Bool, not, _&&_, List, [], _∷_, _++_, eqb, length, take, drop, page-size, least-pages}
+use Rattle.rules.specs.Words.{most-pages, records, record-size, between, little, number}
+use Rattle.rules.specs.Answers.{Registers, Outcome, BadMachine, Launched, WrongSize, Verdict, Refused, Answered, refuse}
+use Rattle.rules.specs.Machine.{Lent, Machine}
+use Rattle.rules.specs.Launch.{Plan, launch}
+use Rattle.rules.specs.Steps.{store, mark}
+use Rattle.rules.specs.Call.{Posed, call}
+
+-- the first n parts of a list, `size` elements each; and parts joined again
+unfoldable pub chop : {A : Type 0} → ℕ → ℕ → List A → List (List A)
+chop zero size l = []
+chop (suc n) size l = take size l ∷ chop n size (drop size l)
+
+unfoldable pub join : {A : Type 0} → List (List A) → List A
+join [] = []
+join (part ∷ parts) = part ++ join parts
+
+-- memory, table and sheet as they are lent; the machine that they are, and back
+pub record Buffers : Type 0 where
+  pub memory : List ℕ
+  pub table : List ℕ
+  pub sheet : List ℕ
+
+unfoldable pub parted : Buffers → Lent
+parted b =
+    record {
+      memory = chop (length (b .table)) page-size (b .memory);
+      table = b .table;
+      sheet = chop records record-size (b .sheet);
+    }
+
+unfoldable pub joined : Lent → Buffers
+joined m = record { memory = join (m .memory); table = m .table; sheet = join (m .sheet) }
+
+-- "Guest memory: 4,096 x N bytes, N from 3 to 8,192"; "vCPU sheet: 512 bytes"
+unfoldable pub memory-sized : Buffers → Bool
+memory-sized b = between least-pages most-pages (length (b .table)) && eqb (length (b .memory)) (page-size * length (b .table))
+
+unfoldable pub sheet-sized : Buffers → Bool
+sheet-sized b = eqb (length (b .sheet)) (records * record-size)
+
+-- launch: "1 a size wrong", the given N among them
+unfoldable pub launch-bytes : ℕ → Plan → Buffers → Answered Launched Buffers
+launch-bytes n plan b =
+    let l : Answered Launched Machine = launch plan (record { lent = parted b }) in
+    refuse b (not (memory-sized b && sheet-sized b && eqb n (length (b .table)))) WrongSize
+    (record { answer = l .answer; after = joined (l .after .lent) })
+
+-- a store is lent memory and table, a mark the sheet: "Otherwise, a wrong size included, both are refused without change"
+unfoldable pub store-bytes : ℕ → ℕ → ℕ → List ℕ → Buffers → Answered Verdict Buffers
+store-bytes c p offset bytes b =
+    let s : Answered Verdict Lent = store c p offset bytes (parted b) in
+    refuse b (not (memory-sized b)) Refused
+    (record { answer = s .answer; after = record { memory = join (s .after .memory); table = b .table; sheet = b .sheet } })
+
+unfoldable pub mark-bytes : ℕ → ℕ → Buffers → Answered Verdict Buffers
+mark-bytes i value b =
+    let s : Answered Verdict Lent = mark i value (parted b) in
+    refuse b (not (sheet-sized b)) Refused
+    (record { answer = s .answer; after = record { memory = b .memory; table = b .table; sheet = join (s .after .sheet) } })
+
+-- the call, with the registers as one record
+unfoldable pub call-bytes : ℕ → Posed Registers Buffers → Answered Outcome (Posed Registers Buffers)
+call-bytes caller s =
+    let b : Buffers = s .machine in
+    let a : Answered Outcome (Posed Registers Machine) =
+    call caller (record { registers = s .registers; machine = record { lent = parted b } }) in
+    refuse s (not (memory-sized b && sheet-sized b)) BadMachine
+    (record { answer = a .answer; after = record { registers = a .after .registers; machine = joined (a .after .machine .lent) } })
+
+-- "Registers: 48 bytes, eight each: RAX, RCX, RDX, R8, R9, and the exit reason"
+unfoldable pub registers-of : List ℕ → Registers
+registers-of bytes =
+    let at : ℕ → ℕ = λ k. number 8 bytes (8 * k) in
+    record { rax = at 0; rcx = at 1; rdx = at 2; r8 = at 3; r9 = at 4; reason = at 5 }
+
+unfoldable pub register-bytes : Registers → List ℕ
+register-bytes g =
+    little 8 (g .rax) ++ little 8 (g .rcx) ++ little 8 (g .rdx) ++ little 8 (g .r8) ++ little 8 (g .r9) ++ little 8 (g .reason)
+
+-- the call at the byte door, where the registers' size is tested too
+unfoldable pub door-bytes : ℕ → Posed (List ℕ) Buffers → Answered Outcome (Posed (List ℕ) Buffers)
+door-bytes caller s =
+    let a : Answered Outcome (Posed Registers Buffers) =
+    call-bytes caller (record { registers = registers-of (s .registers); machine = s .machine }) in
+    refuse s (not (eqb (length (s .registers)) 48)) BadMachine
+    (record { answer = a .answer; after = record { registers = register-bytes (a .after .registers); machine = a .after .machine } })

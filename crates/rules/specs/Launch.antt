@@ -1,0 +1,74 @@
+-- "Launch."
+use Rattle.rules.specs.Words.{ℕ, _+_, _-_, Bool, cond, not, _&&_, _||_, List, [], _∷_, map, leb, ltb, eqb, replicate, records, record-size}
+use Rattle.rules.specs.Words.{between, bit, range}
+use Rattle.rules.specs.Answers.{Launched, Made, OutOfRange, AreasMeet, UnfitVmsa, Answered, refuse}
+use Rattle.rules.specs.Machine.{Lent, Machine, N, below, page-at, write, zeros, laid-out, vmsa-vmpl, vmsa-features, efer}
+
+-- "Given N" (Flat compares it) "the monitor's first page and count, startup VMSA page, calling page, APIC ID, and V"
+pub record Plan : Type 0 where
+  pub first : ℕ
+  pub count : ℕ
+  pub vmsa : ℕ
+  pub calling : ℕ
+  pub apic-id : ℕ
+  pub valid-below : ℕ
+
+unfoldable pub in-monitor : Plan → ℕ → Bool
+in-monitor plan p = leb (plan .first) p && ltb p (plan .first + plan .count)
+
+-- "2 a page or V out of range, or the monitor empty"
+unfoldable pub out-of-range : Plan → Lent → Bool
+out-of-range plan m =
+    ltb (N m) (plan .first + plan .count) || not (below m (plan .vmsa)) || not (below m (plan .calling))
+    || ltb (N m) (plan .valid-below) || eqb (plan .count) 0
+
+-- "3 two of the three areas meet"
+unfoldable pub areas-meet : Plan → Bool
+areas-meet plan = eqb (plan .vmsa) (plan .calling) || in-monitor plan (plan .vmsa) || in-monitor plan (plan .calling)
+
+-- "4 VMPL not 1 to 3 or EFER (0xD0, eight bytes) bit 12 clear"
+unfoldable pub unfit-vmsa : List ℕ → Bool
+unfit-vmsa page = not (between 1 3 (vmsa-vmpl page)) || not (bit 12 (efer page))
+
+-- "Monitor bytes 0x0A, VMSA 0x0D, calling page 0x79; other pages below V 0x78, the rest 0x00"
+unfoldable pub launch-byte : Plan → ℕ → ℕ
+launch-byte plan p =
+    cond (in-monitor plan p) 0x0A
+    (cond (eqb p (plan .vmsa)) 0x0D
+    (cond (eqb p (plan .calling)) 0x79
+    (cond (ltb p (plan .valid-below)) 0x78 0x00)))
+
+-- "Record 0 is live, not running, holds nothing, and takes VMPL and features from the VMSA"
+unfoldable pub launch-record : Plan → List ℕ → List ℕ
+launch-record plan page =
+    laid-out (record {
+      live = 1;
+      vmpl = vmsa-vmpl page;
+      running = 0;
+      holding = 0;
+      apic-id = plan .apic-id;
+      vmsa = plan .vmsa;
+      calling = plan .calling;
+      pool-page = 0;
+      spare = 0;
+      features = vmsa-features page;
+    })
+
+-- "the other records are zeros; bytes 0 and 1 of the calling page become 0"
+unfoldable pub made : Plan → Lent → Machine
+made plan m =
+    let new : Lent =
+    record {
+      memory = m .memory;
+      table = map (launch-byte plan) (range 0 (N m));
+      sheet = launch-record plan (page-at m (plan .vmsa)) ∷ replicate (records - 1) (zeros record-size);
+    } in
+    record { lent = write (plan .calling) 0 (0 ∷ 0 ∷ []) new }
+
+-- "Lowest number wins; unless 0, nothing changes." Answer 1, a size wrong, is given by Flat
+unfoldable pub launch : Plan → Machine → Answered Launched Machine
+launch plan m =
+    refuse m (out-of-range plan (m .lent)) OutOfRange
+    (refuse m (areas-meet plan) AreasMeet
+    (refuse m (unfit-vmsa (page-at (m .lent) (plan .vmsa))) UnfitVmsa
+    (record { answer = Made; after = made plan (m .lent) })))

@@ -1,0 +1,66 @@
+-- Steps and runs, and the pages that a step takes in and gives back.
+use Rattle.rules.specs.Words.{ℕ, _+_, _-_, Bool, cond, not, _&&_, _||_, List, [], _∷_, eqb, multiple, count, range}
+use Rattle.rules.specs.Answers.{Registers, Outcome, Answered, outcome-number}
+use Rattle.rules.specs.Machine.{Lent, Machine, pool-free, pool-in-use, owner, vcpu}
+use Rattle.rules.specs.Steps.{store, mark}
+use Rattle.rules.specs.Lists.{bad-list-page, in-list, bad-count, bad-next, list-next, list-entry, entry-pages}
+use Rattle.rules.specs.Call.{Posed, call, protocol, call-number}
+
+-- "any run of calls, stores and marks": a call by this record with these registers; a store of VMPL, page, offset and bytes; a mark of
+-- this record, running or not
+pub data Step : Type 0 where
+  calls : ℕ → Registers → Step
+  stores : ℕ → ℕ → ℕ → List ℕ → Step
+  marks : ℕ → ℕ → Step
+
+unfoldable pub called : ℕ → Registers → Machine → Answered Outcome (Posed Registers Machine)
+called caller g m = call caller (record { registers = g; machine = m })
+
+unfoldable pub step : Step → Machine → Machine
+step (calls caller g) m = called caller g m .after .machine
+step (stores c p offset bytes) m = record { lent = store c p offset bytes (m .lent) .after }
+step (marks i value) m = record { lent = mark i value (m .lent) .after }
+
+unfoldable pub run-steps : List Step → Machine → Machine
+run-steps [] m = m
+run-steps (s ∷ ss) m = run-steps ss (step s m)
+
+-- the pages of the pool
+unfoldable pub pool : Lent → ℕ
+pool m = count (λ b. eqb (owner b) pool-free || eqb (owner b) pool-in-use) (m .table)
+
+-- call n, with outcome 0
+unfoldable pub handled-as : ℕ → ℕ → Registers → Machine → Bool
+handled-as n caller g m = eqb (outcome-number (called caller g m .answer)) 0 && eqb (protocol g) 0 && eqb (call-number g) n
+
+unfoldable pub head-accepted : ℕ → ℕ → Lent → Bool
+head-accepted vmpl rcx m = multiple 8 rcx && not (bad-list-page vmpl rcx m) && not (bad-count rcx m) && not (bad-next rcx m)
+
+-- the pages of some entries of the list at RCX
+unfoldable pub pages-listed : ℕ → Lent → List ℕ → ℕ
+pages-listed rcx m [] = 0
+pages-listed rcx m (k ∷ ks) = entry-pages (list-entry k rcx m) + pages-listed rcx m ks
+
+-- ""Taken in" counts the pages of Deposit entries that the index passed": from the index before to the index after, read on entry
+unfoldable pub taken-in : Step → Machine → ℕ
+taken-in (calls caller g) m =
+    let from : ℕ = list-next (g .rcx) (m .lent) in
+    let to : ℕ = list-next (g .rcx) (called caller g m .after .machine .lent) in
+    cond (handled-as 4 caller g m && head-accepted (vcpu (m .lent) caller .vmpl) (g .rcx) (m .lent))
+    (pages-listed (g .rcx) (m .lent) (range from (to - from)))
+    0
+taken-in (stores c p offset bytes) m = 0
+taken-in (marks i value) m = 0
+
+-- ""given back" the counts that Withdraw wrote": the two bytes at RCX on exit, for code 0
+unfoldable pub given-back : Step → Machine → ℕ
+given-back (calls caller g) m =
+    let s : Posed Registers Machine = called caller g m .after in
+    cond (handled-as 5 caller g m && eqb (s .registers .rax) 0) (in-list 2 0 (g .rcx) (s .machine .lent)) 0
+given-back (stores c p offset bytes) m = 0
+given-back (marks i value) m = 0
+
+-- either count, summed over a run
+unfoldable pub over-run : (Step → Machine → ℕ) → List Step → Machine → ℕ
+over-run counted [] m = 0
+over-run counted (s ∷ ss) m = counted s m + over-run counted ss (step s m)

@@ -1,0 +1,70 @@
+-- "A sound machine", as the faults that a program could look for: sound is no page and no record at fault.
+use Rattle.rules.specs.Words.{ℕ, Bool, false, cond, not, _&&_, _||_, List, [], _∷_, _++_, leb, ltb, eqb, length, page-size, least-pages}
+use Rattle.rules.specs.Words.{most-pages, records, record-size, records-without-pool, between, bits, range, every, count}
+use Rattle.rules.specs.Machine.{Lent, N, plain, calling-area, monitor, pool-free, pool-in-use, vmsa-page, owner, valid, permitted, table-byte}
+use Rattle.rules.specs.Machine.{Vcpu, fields, is-live, holds, record-at, vcpu, startup}
+
+-- what outcome 3 names in a record: "a live, running or holding byte above 1; a live record with VMPL outside 1 to 3 or a page (the pool
+-- page if held) at or above N"
+unfoldable pub bad-record : ℕ → List ℕ → Bool
+bad-record n r =
+    let v : Vcpu = fields r in
+    ltb 1 (v .live) || ltb 1 (v .running) || ltb 1 (v .holding)
+    || is-live r && (not (between 1 3 (v .vmpl)) || leb n (v .vmsa) || leb n (v .calling) || holds r && leb n (v .pool-page))
+
+-- the owners that live records claim for page p: "the pages that live records name as VMSA, calling page and held pool page"
+unfoldable pub claim : List ℕ → ℕ → List ℕ
+claim r p =
+    let v : Vcpu = fields r in
+    let say : Bool → ℕ → List ℕ = λ says o. cond (is-live r && says) (o ∷ []) [] in
+    say (eqb (v .vmsa) p) vmsa-page ++ say (eqb (v .calling) p) calling-area ++ say (holds r && eqb (v .pool-page) p) pool-in-use
+
+unfoldable pub claims : List (List ℕ) → ℕ → List ℕ
+claims [] p = []
+claims (r ∷ rs) p = claim r p ++ claims rs p
+
+-- "Owners 5, 1 and 4 stand on exactly the pages that live records name .., each named once; 6 and 7 don't occur"
+unfoldable pub agrees : List ℕ → ℕ → Bool
+agrees [] o = eqb o plain || eqb o monitor || eqb o pool-free
+agrees (c ∷ []) o = eqb o c
+agrees (c ∷ d ∷ ds) o = false
+
+-- "Owners 2 to 5 and invalid pages carry no permission; valid plain and calling pages carry the startup's VMPL"
+unfoldable pub well-permitted : ℕ → ℕ → Bool
+well-permitted c b = cond (valid b && leb (owner b) calling-area) (permitted c b) (eqb (bits 6 4 b) 0)
+
+-- the fault of page p: 1 owner and sheet disagree, 2 validity ("Pages that aren't plain are valid"), 3 permission; 0 none
+unfoldable pub page-fault : Lent → ℕ → ℕ
+page-fault m p =
+    let b : ℕ = table-byte m p in
+    cond (not (agrees (claims (m .sheet) p) (owner b))) 1
+    (cond (not (eqb (owner b) plain) && not (valid b)) 2
+    (cond (not (well-permitted (startup m .vmpl) b)) 3 0))
+
+-- what is wrong with a live record beyond what outcome 3 names. "A live record from 4 up holds a pool page, 0 to 3 never do"; the layout,
+-- "0 if none held", "zeros", "record 0 only, else 0"; "Live APIC IDs differ, and no live VMPL is below the startup's"
+unfoldable pub live-fault : Lent → ℕ → Bool
+live-fault m i =
+    let v : Vcpu = vcpu m i in
+    not (eqb (v .holding) (cond (ltb i records-without-pool) 0 1))
+    || eqb (v .holding) 0 && not (eqb (v .pool-page) 0)
+    || not (eqb (v .spare) 0)
+    || not (eqb i 0) && not (eqb (v .features) 0)
+    || not (eqb (count (λ r. is-live r && eqb (fields r .apic-id) (v .apic-id)) (m .sheet)) 1)
+    || ltb (v .vmpl) (startup m .vmpl)
+
+-- "The sheet holds nothing that outcome 3 names and keeps the layout above. Record 0 is live"; "other records are zeros"
+unfoldable pub record-fault : Lent → ℕ → Bool
+record-fault m i =
+    let r : List ℕ = record-at m i in
+    bad-record (N m) r || cond (is-live r) (live-fault m i) (eqb i 0 || not (every (eqb 0) r))
+
+-- the sizes, since outcome 3 names them
+unfoldable pub sized : Lent → Bool
+sized m =
+    between least-pages most-pages (N m)
+    && eqb (length (m .memory)) (N m) && every (λ page. eqb (length page) page-size) (m .memory)
+    && eqb (length (m .sheet)) records && every (λ r. eqb (length r) record-size) (m .sheet)
+
+unfoldable pub sound : Lent → Bool
+sound m = sized m && every (λ p. eqb (page-fault m p) 0) (range 0 (N m)) && every (λ i. not (record-fault m i)) (range 0 records)

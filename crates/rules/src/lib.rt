@@ -1,0 +1,75 @@
+// What a reader must believe, first half: the types that cross crates. The second half, the rule sheet as definitions, is in specs/.
+// Each answer is an enum of its own; specs/Answers.antt gives the paper's number for each of its cases.
+// There is no code here, and nothing is assumed.
+
+// Registers: RAX, RCX, RDX, R8, R9, and the exit reason from the VMSA.
+pub struct Registers {
+    pub rax: u64,
+    pub rcx: u64,
+    pub rdx: u64,
+    pub r8: u64,
+    pub r9: u64,
+    pub reason: u64,
+}
+
+// What a call comes back with.
+pub enum Outcome {
+    Handled,
+    NoCall,
+    Gone,
+    BadMachine,
+}
+
+// The code of a call that was handled.
+pub enum Code {
+    Success,
+    OneMorePage,
+    Incomplete,
+    UnknownProtocol,
+    UnknownCall,
+    Address,
+    BadPending,
+    Parameter,
+    Request,
+    InUse,
+    SizeMismatch,
+    NoChange,
+}
+
+// What launch answers.
+pub enum Launched {
+    Made,
+    WrongSize,
+    OutOfRange,
+    AreasMeet,
+    UnfitVmsa,
+}
+
+// What a store or a mark answers.
+pub enum Verdict {
+    Done,
+    Refused,
+}
+
+// The two calls that work through a list of entries.
+pub enum ListCall {
+    Pvalidate,
+    Deposit,
+}
+
+// What an entry wishes for the pages that it covers: invalid or valid (Pvalidate), or in the pool (Deposit).
+pub enum Wish {
+    Invalid,
+    Valid,
+    Pool,
+}
+
+// An entry either reads cleanly into its range and wish, or is refused with a code.
+pub enum Entry {
+    Reads {
+        first: usize,
+        count: usize,
+        wish: Wish,
+    },
+    Unread(Code),
+}
