@@ -39,7 +39,7 @@ unfoldable pub memory-sized : Buffers → Bool
 memory-sized b = between least-pages most-pages (length (b .table)) && eqb (length (b .memory)) (page-size * length (b .table))
 
 unfoldable pub sheet-sized : Buffers → Bool
-sheet-sized b = eqb (length (b .sheet)) (records * record-size)
+sheet-sized b = eqb (length (b .sheet)) (record-size * records)
 
 -- launch: "1 a size wrong", the given N among them
 unfoldable pub launch-bytes : ℕ → Plan → Buffers → Answered Launched Buffers

@@ -1,0 +1,3 @@
+pub mod Night
+pub mod Table
+pub mod Statement
