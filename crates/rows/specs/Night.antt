@@ -1,54 +1,51 @@
--- How a table of rows is read: each row goes on from the machine that the row above it left, after the guest's stores of its own.
-use Rattle.rules.specs.Words.{ℕ, _*_, Bool, true, false, _&&_, List, [], _∷_, eqb, length, getD, take, drop, every, replicate}
+-- How a table of rows is read. A row goes on from the machine that the row above it left: first the guest, at VMPL 1, stores some bytes; then
+-- comes a launch or a call; then the answer, bytes of memory and bytes of the table are compared with what is expected.
+use Rattle.rules.specs.Words.{ℕ, zero, suc, _/_, _%_, _^_, Bool, true, false, _&&_, List, [], _∷_, eqb, length, take, drop, every}
 use Rattle.rules.specs.declared.Registers.{Registers}
-use Rattle.rules.specs.Answers.{Answered, outcome-number, launched-number}
-use Rattle.rules.specs.Machine.{Machine, page-at, table-byte}
+use Rattle.rules.specs.Answers.{outcome-number, launched-number}
+use Rattle.rules.specs.Machine.{Machine, page-of, offset-of, page-at, startup}
 use Rattle.rules.specs.Launch.{Plan, launch}
-use Rattle.rules.specs.Call.{Posed}
-use Rattle.rules.specs.Runs.{Step, called, run-steps}
-use Rattle.rules.specs.Runs.Step.{stores}
+use Rattle.rules.specs.Runs.{Step, stores, called, run-steps}
 
--- what a row asks: a launch, or a call by the startup vCPU
+-- n bytes as they are written on paper, the first one first
+unfoldable pub hex : ℕ → ℕ → List ℕ
+hex zero digits = []
+hex (suc n) digits = digits / 256 ^ n % 256 ∷ hex n digits
+
+-- bytes that stand from a place on: a gPA, or a page of the table
+pub record Placed : Type 0 where
+  pub place : ℕ
+  pub bytes : List ℕ
+
+-- a launch; or a call by the startup vCPU, whose pending byte is set first
 pub data Event : Type 0 where
   launches : Plan → Event
   asks : Registers → Event
 
+pub record Row : Type 0 where
+  pub stored : List Placed
+  pub event : Event
+  pub answer : List ℕ
+  pub memory : List Placed
+  pub table : List Placed
+
+-- what came of an event: launch's answer, or outcome, RAX and RCX; and the machine after it
 pub record Seen : Type 0 where
-  -- launch's answer, or outcome, RAX and RCX
   pub answer : List ℕ
   pub machine : Machine
 
--- bytes that stand in a page from an offset on
-pub record Bytes : Type 0 where
-  pub page : ℕ
-  pub offset : ℕ
-  pub bytes : List ℕ
-
--- the table byte of a page
-pub record Entry : Type 0 where
-  pub page : ℕ
-  pub byte : ℕ
-
-pub record Row : Type 0 where
-  pub stored : List Bytes
-  pub event : Event
-  pub answer : List ℕ
-  pub bytes : List Bytes
-  pub table : List Entry
-
--- each store is VMPL 1's
-unfoldable pub store-of : List Bytes → List Step
-store-of [] = []
-store-of (b ∷ bs) = stores 1 (b .page) (b .offset) (b .bytes) ∷ store-of bs
+unfoldable pub guest-stores : List Placed → List Step
+guest-stores [] = []
+guest-stores (s ∷ ss) = stores 1 (page-of (s .place)) (offset-of (s .place)) (s .bytes) ∷ guest-stores ss
 
 unfoldable pub happen : Event → Machine → Seen
 happen (launches plan) m =
     let a = launch plan m in
     record { answer = launched-number (a .answer) ∷ []; machine = a .after }
 happen (asks g) m =
-    let a = called 0 g m in
-    let r = a .after .registers in
-    record { answer = outcome-number (a .answer) ∷ r .rax ∷ r .rcx ∷ []; machine = a .after .machine }
+    let a = called 0 g (run-steps (stores 1 (startup (m .lent) .calling) 0 (1 ∷ []) ∷ []) m) in
+    let after = a .after .registers in
+    record { answer = outcome-number (a .answer) ∷ after .rax ∷ after .rcx ∷ []; machine = a .after .machine }
 
 unfoldable pub same : List ℕ → List ℕ → Bool
 same [] [] = true
@@ -56,17 +53,18 @@ same [] (y ∷ ys) = false
 same (x ∷ xs) [] = false
 same (x ∷ xs) (y ∷ ys) = eqb x y && same xs ys
 
-unfoldable pub stands : Machine → Bytes → Bool
-stands m b = same (take (length (b .bytes)) (drop (b .offset) (page-at (m .lent) (b .page)))) (b .bytes)
-
-unfoldable pub entered : Machine → Entry → Bool
-entered m e = eqb (table-byte (m .lent) (e .page)) (e .byte)
+unfoldable pub stand : List ℕ → ℕ → List ℕ → Bool
+stand bytes i expected = same (take (length expected) (drop i bytes)) expected
 
 unfoldable pub as-expected : Row → Seen → Bool
-as-expected r s = same (s .answer) (r .answer) && every (stands (s .machine)) (r .bytes) && every (entered (s .machine)) (r .table)
+as-expected r s =
+    let m = s .machine .lent in
+    same (s .answer) (r .answer)
+    && every (λ e. stand (page-at m (page-of (e .place))) (offset-of (e .place)) (e .bytes)) (r .memory)
+    && every (λ e. stand (m .table) (e .place) (e .bytes)) (r .table)
 
 unfoldable pub hold : List Row → Machine → Bool
 hold [] m = true
 hold (r ∷ rs) m =
-    let s = happen (r .event) (run-steps (store-of (r .stored)) m) in
+    let s = happen (r .event) (run-steps (guest-stores (r .stored)) m) in
     as-expected r s && hold rs (s .machine)

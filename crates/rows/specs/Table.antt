@@ -1,16 +1,17 @@
--- The rows marked * of "Sixteen pages": "Monitor 12 to 15, VMSA 11, calling 10, V 8, VMPL 1."
--- The memory is blank but for the two bytes of the VMSA page that launch wants, its VMPL and EFER bit 12.
+-- The rows marked * of "Sixteen pages", in the paper's order: "Monitor 12 to 15, VMSA 11, calling 10, V 8, VMPL 1."
+-- The memory is blank but for the two bytes of the VMSA page that launch wants: its VMPL, and EFER bit 12.
 use Rattle.rules.specs.Words.{ℕ, List, [], _∷_, _++_, replicate, set, page-size, records, record-size}
 use Rattle.rules.specs.Machine.{Machine, zeros}
 use Rattle.rules.specs.Launch.{Plan}
-use Rattle.rows.specs.Night.{Event, launches, asks, Bytes, Entry, Row}
+use Rattle.rows.specs.Night.{hex, Placed, Event, launches, asks, Row}
 
--- sixteen blank pages, as lent to launch
+-- sixteen pages, as they are lent to launch
 unfoldable pub blank : Machine
 blank =
+    let vmsa = set (set (zeros page-size) 0xCA 1) 0xD1 0x10 in
     record {
       lent = record {
-        memory = replicate 11 (zeros page-size) ++ (set (set (zeros page-size) 0xCA 1) 0xD1 0x10 ∷ replicate 4 (zeros page-size));
+        memory = replicate 11 (zeros page-size) ++ vmsa ∷ replicate 4 (zeros page-size);
         table = zeros 16;
         sheet = replicate records (zeros record-size);
       };
@@ -19,148 +20,186 @@ blank =
 unfoldable pub plan : Plan
 plan = record { first = 12; count = 4; vmsa = 11; calling = 10; apic-id = 0; valid-below = 8 }
 
--- the cells of the table
-unfoldable pub at : ℕ → ℕ → List ℕ → Bytes
-at page offset bytes = record { page = page; offset = offset; bytes = bytes }
+-- the cells of the table: n bytes at a place; call RAX with RCX, RDX and R8; outcome 0 with this code and this RCX
+unfoldable pub at : ℕ → ℕ → ℕ → Placed
+at place n digits = record { place = place; bytes = hex n digits }
 
-unfoldable pub is : ℕ → ℕ → Entry
-is page byte = record { page = page; byte = byte }
+unfoldable pub blank-page : ℕ → Placed
+blank-page place = record { place = place; bytes = zeros page-size }
 
 unfoldable pub ask : ℕ → ℕ → ℕ → ℕ → Event
 ask rax rcx rdx r8 = asks (record { rax = rax; rcx = rcx; rdx = rdx; r8 = r8; r9 = 0; reason = 0x403 })
 
-unfoldable pub row : List Bytes → Event → List ℕ → List Bytes → List Entry → Row
-row stored event answer bytes table = record { stored = stored; event = event; answer = answer; bytes = bytes; table = table }
+unfoldable pub code : ℕ → ℕ → List ℕ
+code rax rcx = 0 ∷ rax ∷ rcx ∷ []
 
--- stored, asked; answer, bytes, table bytes
 unfoldable pub rows : List Row
 rows =
-    -- "Table whole: 78 78 78 78 78 78 78 78 00 00 79 0D 0A 0A 0A 0A"
-    row
-    []
-    (launches plan) (0 ∷ [])
-    []
-    (is 0 0x78 ∷ is 1 0x78 ∷ is 2 0x78 ∷ is 3 0x78 ∷ is 4 0x78 ∷ is 5 0x78 ∷ is 6 0x78 ∷ is 7 0x78 ∷ is 8 0x00 ∷ is 9 0x00 ∷ is 10 0x79 ∷ is 11 0x0D ∷ is 12 0x0A ∷ is 13 0x0A ∷ is 14 0x0A ∷ is 15 0x0A ∷ [])
+    -- "Table whole"
+    record {
+      stored = [];
+      event = launches plan;
+      answer = 0 ∷ [];
+      memory = [];
+      table = at 0 16 0x78_78_78_78_78_78_78_78_00_00_79_0D_0A_0A_0A_0A ∷ [];
+    }
     ∷
     -- "List at 0x1000: .., Pvalidate: code 0, bytes 2,3 01 00, page 8 zeros, table byte 18"
-    row
-    (at 1 0x0 (0x01 ∷ 0x00 ∷ 0x00 ∷ 0x00 ∷ 0x00 ∷ 0x00 ∷ 0x00 ∷ 0x00 ∷ 0x04 ∷ 0x80 ∷ 0x00 ∷ 0x00 ∷ 0x00 ∷ 0x00 ∷ 0x00 ∷ 0x00 ∷ []) ∷ at 10 0x0 (0x01 ∷ []) ∷ [])
-    (ask 1 0x1000 0 0) (0 ∷ 0 ∷ 0x1000 ∷ [])
-    (at 1 0x2 (0x01 ∷ 0x00 ∷ []) ∷ at 8 0x0 (zeros page-size) ∷ [])
-    (is 8 0x18 ∷ [])
+    record {
+      stored = at 0x1000 16 0x01_00_00_00_00_00_00_00_04_80_00_00_00_00_00_00 ∷ [];
+      event = ask 1 0x1000 0 0;
+      answer = code 0 0x1000;
+      memory = at 0x1002 2 0x01_00 ∷ blank-page 0x8000 ∷ [];
+      table = at 8 1 0x18 ∷ [];
+    }
     ∷
     -- "Index back to 0, again: 0x80001010, index 0"
-    row
-    (at 1 0x2 (0x00 ∷ 0x00 ∷ []) ∷ at 10 0x0 (0x01 ∷ []) ∷ [])
-    (ask 1 0x1000 0 0) (0 ∷ 0x80001010 ∷ 0x1000 ∷ [])
-    (at 1 0x2 (0x00 ∷ 0x00 ∷ []) ∷ [])
-    (is 8 0x18 ∷ [])
+    record {
+      stored = at 0x1002 2 0x00_00 ∷ [];
+      event = ask 1 0x1000 0 0;
+      answer = code 0x80001010 0x1000;
+      memory = at 0x1002 2 0x00_00 ∷ [];
+      table = at 8 1 0x18 ∷ [];
+    }
     ∷
-    -- "Entry 0x800C: success": page 8 was written to, and is zeros again
-    row
-    (at 8 0x10 (0xAA ∷ 0xBB ∷ []) ∷ at 1 0x8 (0x0C ∷ 0x80 ∷ 0x00 ∷ 0x00 ∷ 0x00 ∷ 0x00 ∷ 0x00 ∷ 0x00 ∷ []) ∷ at 10 0x0 (0x01 ∷ []) ∷ [])
-    (ask 1 0x1000 0 0) (0 ∷ 0 ∷ 0x1000 ∷ [])
-    (at 1 0x2 (0x01 ∷ 0x00 ∷ []) ∷ at 8 0x0 (zeros page-size) ∷ [])
-    (is 8 0x18 ∷ [])
+    -- "Entry 0x800C: success"; page 8, written to in between, is zeros again
+    record {
+      stored = at 0x8010 2 0xAA_BB ∷ at 0x1008 8 0x0C_80_00_00_00_00_00_00 ∷ [];
+      event = ask 1 0x1000 0 0;
+      answer = code 0 0x1000;
+      memory = at 0x1002 2 0x01_00 ∷ blank-page 0x8000 ∷ [];
+      table = at 8 1 0x18 ∷ [];
+    }
     ∷
     -- "Index 0, entry 0x8000 by Deposit: 0B, startup flag 1"
-    row
-    (at 1 0x2 (0x00 ∷ 0x00 ∷ []) ∷ at 1 0x8 (0x00 ∷ 0x80 ∷ 0x00 ∷ 0x00 ∷ 0x00 ∷ 0x00 ∷ 0x00 ∷ 0x00 ∷ []) ∷ at 10 0x0 (0x01 ∷ []) ∷ [])
-    (ask 4 0x1000 0 0) (0 ∷ 0 ∷ 0x1000 ∷ [])
-    (at 1 0x2 (0x01 ∷ 0x00 ∷ []) ∷ at 10 0x0 (0x00 ∷ 0x01 ∷ []) ∷ [])
-    (is 8 0x0B ∷ [])
+    record {
+      stored = at 0x1002 2 0x00_00 ∷ at 0x1008 8 0x00_80_00_00_00_00_00_00 ∷ [];
+      event = ask 4 0x1000 0 0;
+      answer = code 0 0x1000;
+      memory = at 0x1002 2 0x01_00 ∷ at 0xA000 2 0x00_01 ∷ [];
+      table = at 8 1 0x0B ∷ [];
+    }
     ∷
     -- "Withdraw at 0x2000: 01 00, six bytes kept, 00 80 00 00 00 00 00 00; byte 18, flag 0"
-    row
-    (at 2 0x0 (0xEE ∷ 0xEE ∷ 0xEE ∷ 0xEE ∷ 0xEE ∷ 0xEE ∷ 0xEE ∷ 0xEE ∷ 0xEE ∷ 0xEE ∷ 0xEE ∷ 0xEE ∷ 0xEE ∷ 0xEE ∷ 0xEE ∷ 0xEE ∷ 0xEE ∷ 0xEE ∷ []) ∷ at 10 0x0 (0x01 ∷ []) ∷ [])
-    (ask 5 0x2000 0 0) (0 ∷ 0 ∷ 0x2000 ∷ [])
-    (at 2 0x0 (0x01 ∷ 0x00 ∷ 0xEE ∷ 0xEE ∷ 0xEE ∷ 0xEE ∷ 0xEE ∷ 0xEE ∷ 0x00 ∷ 0x80 ∷ 0x00 ∷ 0x00 ∷ 0x00 ∷ 0x00 ∷ 0x00 ∷ 0x00 ∷ 0xEE ∷ 0xEE ∷ []) ∷ at 10 0x0 (0x00 ∷ 0x00 ∷ []) ∷ [])
-    (is 8 0x18 ∷ [])
+    record {
+      stored = at 0x2000 18 0xEE_EE_EE_EE_EE_EE_EE_EE_EE_EE_EE_EE_EE_EE_EE_EE_EE_EE ∷ [];
+      event = ask 5 0x2000 0 0;
+      answer = code 0 0x2000;
+      memory = at 0x2000 18 0x01_00_EE_EE_EE_EE_EE_EE_00_80_00_00_00_00_00_00_EE_EE ∷ at 0xA000 2 0x00_00 ∷ [];
+      table = at 8 1 0x18 ∷ [];
+    }
     ∷
     -- "Withdraw at 0x2FF8: PARAMETER"
-    row
-    (at 10 0x0 (0x01 ∷ []) ∷ [])
-    (ask 5 0x2FF8 0 0) (0 ∷ 0x80000005 ∷ 0x2ff8 ∷ [])
-    (at 2 0xFF8 (0x00 ∷ 0x00 ∷ 0x00 ∷ 0x00 ∷ 0x00 ∷ 0x00 ∷ 0x00 ∷ 0x00 ∷ []) ∷ at 10 0x0 (0x00 ∷ 0x00 ∷ []) ∷ [])
-    (is 8 0x18 ∷ [])
+    record {
+      stored = [];
+      event = ask 5 0x2FF8 0 0;
+      answer = code 0x80000005 0x2FF8;
+      memory = at 0x2FF8 8 0x00_00_00_00_00_00_00_00 ∷ [];
+      table = at 8 1 0x18 ∷ [];
+    }
     ∷
-    -- "at 0x2FF0 one entry fits": two pages are deposited first
-    row
-    (at 1 0x0 (0x02 ∷ 0x00 ∷ 0x00 ∷ 0x00 ∷ 0x00 ∷ 0x00 ∷ 0x00 ∷ 0x00 ∷ 0x00 ∷ 0x30 ∷ 0x00 ∷ 0x00 ∷ 0x00 ∷ 0x00 ∷ 0x00 ∷ 0x00 ∷ 0x00 ∷ 0x80 ∷ 0x00 ∷ 0x00 ∷ 0x00 ∷ 0x00 ∷ 0x00 ∷ 0x00 ∷ []) ∷ at 10 0x0 (0x01 ∷ []) ∷ [])
-    (ask 4 0x1000 0 0) (0 ∷ 0 ∷ 0x1000 ∷ [])
-    (at 1 0x2 (0x02 ∷ 0x00 ∷ []) ∷ at 10 0x0 (0x00 ∷ 0x01 ∷ []) ∷ [])
-    (is 3 0x0B ∷ is 8 0x0B ∷ [])
+    -- "at 0x2FF0 one entry fits": of two pages that are deposited for it, the lower
+    record {
+      stored = at 0x1000 24 0x02_00_00_00_00_00_00_00_00_30_00_00_00_00_00_00_00_80_00_00_00_00_00_00 ∷ [];
+      event = ask 4 0x1000 0 0;
+      answer = code 0 0x1000;
+      memory = at 0x1002 2 0x02_00 ∷ [];
+      table = at 3 1 0x0B ∷ at 8 1 0x0B ∷ [];
+    }
     ∷
-    row
-    (at 10 0x0 (0x01 ∷ []) ∷ [])
-    (ask 5 0x2FF0 0 0) (0 ∷ 0 ∷ 0x2ff0 ∷ [])
-    (at 2 0xFF0 (0x01 ∷ 0x00 ∷ 0x00 ∷ 0x00 ∷ 0x00 ∷ 0x00 ∷ 0x00 ∷ 0x00 ∷ 0x00 ∷ 0x30 ∷ 0x00 ∷ 0x00 ∷ 0x00 ∷ 0x00 ∷ 0x00 ∷ 0x00 ∷ []) ∷ at 10 0x0 (0x00 ∷ 0x01 ∷ []) ∷ [])
-    (is 3 0x18 ∷ is 8 0x0B ∷ [])
+    record {
+      stored = [];
+      event = ask 5 0x2FF0 0 0;
+      answer = code 0 0x2FF0;
+      memory = at 0x2FF0 16 0x01_00_00_00_00_00_00_00_00_30_00_00_00_00_00_00 ∷ at 0xA000 2 0x00_01 ∷ [];
+      table = at 3 1 0x18 ∷ at 8 1 0x0B ∷ [];
+    }
     ∷
-    row
-    (at 10 0x0 (0x01 ∷ []) ∷ [])
-    (ask 5 0x2000 0 0) (0 ∷ 0 ∷ 0x2000 ∷ [])
-    (at 2 0x0 (0x01 ∷ 0x00 ∷ 0xEE ∷ 0xEE ∷ 0xEE ∷ 0xEE ∷ 0xEE ∷ 0xEE ∷ 0x00 ∷ 0x80 ∷ 0x00 ∷ 0x00 ∷ 0x00 ∷ 0x00 ∷ 0x00 ∷ 0x00 ∷ []) ∷ at 10 0x0 (0x00 ∷ 0x00 ∷ []) ∷ [])
-    (is 3 0x18 ∷ is 8 0x18 ∷ [])
+    record {
+      stored = [];
+      event = ask 5 0x2000 0 0;
+      answer = code 0 0x2000;
+      memory = at 0x2000 16 0x01_00_EE_EE_EE_EE_EE_EE_00_80_00_00_00_00_00_00 ∷ at 0xA000 2 0x00_00 ∷ [];
+      table = at 3 1 0x18 ∷ at 8 1 0x18 ∷ [];
+    }
     ∷
-    -- "Count 511 at offset 0 is read": its last entry is
-    row
-    (at 3 0x0 (0xFF ∷ 0x01 ∷ 0xFE ∷ 0x01 ∷ []) ∷ at 3 0xFF8 (0x0C ∷ 0x80 ∷ 0x00 ∷ 0x00 ∷ 0x00 ∷ 0x00 ∷ 0x00 ∷ 0x00 ∷ []) ∷ at 10 0x0 (0x01 ∷ []) ∷ [])
-    (ask 1 0x3000 0 0) (0 ∷ 0 ∷ 0x3000 ∷ [])
-    (at 3 0x0 (0xFF ∷ 0x01 ∷ 0xFF ∷ 0x01 ∷ []) ∷ [])
-    (is 8 0x18 ∷ [])
+    -- "Count 511 at offset 0 is read": to its last entry
+    record {
+      stored = at 0x3000 4 0xFF_01_FE_01 ∷ at 0x3FF8 8 0x0C_80_00_00_00_00_00_00 ∷ [];
+      event = ask 1 0x3000 0 0;
+      answer = code 0 0x3000;
+      memory = at 0x3000 4 0xFF_01_FF_01 ∷ [];
+      table = at 8 1 0x18 ∷ [];
+    }
     ∷
     -- "512 is PARAMETER"
-    row
-    (at 3 0x0 (0x00 ∷ 0x02 ∷ 0xFE ∷ 0x01 ∷ []) ∷ at 10 0x0 (0x01 ∷ []) ∷ [])
-    (ask 1 0x3000 0 0) (0 ∷ 0x80000005 ∷ 0x3000 ∷ [])
-    (at 3 0x0 (0x00 ∷ 0x02 ∷ 0xFE ∷ 0x01 ∷ []) ∷ [])
-    (is 8 0x18 ∷ [])
+    record {
+      stored = at 0x3000 4 0x00_02_00_00 ∷ [];
+      event = ask 1 0x3000 0 0;
+      answer = code 0x80000005 0x3000;
+      memory = at 0x3000 4 0x00_02_00_00 ∷ [];
+      table = at 8 1 0x18 ∷ [];
+    }
     ∷
     -- "Create with VMSA 6 (VMPL 1, EFER bit 12 set, features as record 0's), calling 7, a new APIC ID: 0D, 79"
-    row
-    (at 7 0x0 (0x00 ∷ []) ∷ at 6 0xCA (0x01 ∷ []) ∷ at 6 0xD1 (0x10 ∷ []) ∷ at 10 0x0 (0x01 ∷ []) ∷ [])
-    (ask 2 0x6000 0x7000 1) (0 ∷ 0 ∷ 0x6000 ∷ [])
-    []
-    (is 6 0x0D ∷ is 7 0x79 ∷ [])
+    record {
+      stored = at 0x60CA 1 0x01 ∷ at 0x60D1 1 0x10 ∷ [];
+      event = ask 2 0x6000 0x7000 1;
+      answer = code 0 0x6000;
+      memory = [];
+      table = at 6 2 0x0D_79 ∷ [];
+    }
     ∷
     -- "Delete: 18, 78"
-    row
-    (at 10 0x0 (0x01 ∷ []) ∷ [])
-    (ask 3 0x6000 0 0) (0 ∷ 0 ∷ 0x6000 ∷ [])
-    (at 6 0xD0 (0x00 ∷ 0x00 ∷ 0x00 ∷ 0x00 ∷ 0x00 ∷ 0x00 ∷ 0x00 ∷ 0x00 ∷ []) ∷ [])
-    (is 6 0x18 ∷ is 7 0x78 ∷ [])
+    record {
+      stored = [];
+      event = ask 3 0x6000 0 0;
+      answer = code 0 0x6000;
+      memory = at 0x60D0 8 0x00_00_00_00_00_00_00_00 ∷ [];
+      table = at 6 2 0x18_78 ∷ [];
+    }
     ∷
-    -- "A fifth live vCPU, pool empty: 0x40000001"
-    row
-    (at 6 0xCA (0x01 ∷ []) ∷ at 6 0xD1 (0x10 ∷ []) ∷ at 10 0x0 (0x01 ∷ []) ∷ [])
-    (ask 2 0x6000 0x7000 1) (0 ∷ 0 ∷ 0x6000 ∷ [])
-    []
-    (is 6 0x0D ∷ is 7 0x79 ∷ [])
+    -- "A fifth live vCPU, pool empty: 0x40000001": the second to the fourth
+    record {
+      stored = at 0x60CA 1 0x01 ∷ at 0x60D1 1 0x10 ∷ [];
+      event = ask 2 0x6000 0x7000 1;
+      answer = code 0 0x6000;
+      memory = [];
+      table = at 6 2 0x0D_79 ∷ [];
+    }
     ∷
-    row
-    (at 4 0xCA (0x01 ∷ []) ∷ at 4 0xD1 (0x10 ∷ []) ∷ at 10 0x0 (0x01 ∷ []) ∷ [])
-    (ask 2 0x4000 0x5000 2) (0 ∷ 0 ∷ 0x4000 ∷ [])
-    []
-    (is 4 0x0D ∷ is 5 0x79 ∷ [])
+    record {
+      stored = at 0x40CA 1 0x01 ∷ at 0x40D1 1 0x10 ∷ [];
+      event = ask 2 0x4000 0x5000 2;
+      answer = code 0 0x4000;
+      memory = [];
+      table = at 4 2 0x0D_79 ∷ [];
+    }
     ∷
-    row
-    (at 2 0xCA (0x01 ∷ []) ∷ at 2 0xD1 (0x10 ∷ []) ∷ at 10 0x0 (0x01 ∷ []) ∷ [])
-    (ask 2 0x2000 0x3000 3) (0 ∷ 0 ∷ 0x2000 ∷ [])
-    []
-    (is 2 0x0D ∷ is 3 0x19 ∷ [])
+    record {
+      stored = at 0x20CA 1 0x01 ∷ at 0x20D1 1 0x10 ∷ [];
+      event = ask 2 0x2000 0x3000 3;
+      answer = code 0 0x2000;
+      memory = [];
+      table = at 2 2 0x0D_19 ∷ [];
+    }
     ∷
-    row
-    (at 0 0xCA (0x01 ∷ []) ∷ at 0 0xD1 (0x10 ∷ []) ∷ at 10 0x0 (0x01 ∷ []) ∷ [])
-    (ask 2 0 0x8000 4) (0 ∷ 0x40000001 ∷ 0 ∷ [])
-    []
-    (is 0 0x78 ∷ is 8 0x18 ∷ [])
+    -- and the fifth
+    record {
+      stored = at 0xCA 1 0x01 ∷ at 0xD1 1 0x10 ∷ [];
+      event = ask 2 0x0 0x8000 4;
+      answer = code 0x40000001 0x0;
+      memory = [];
+      table = at 0 1 0x78 ∷ at 8 1 0x18 ∷ [];
+    }
     ∷
     -- "Query RCX 2: 0"
-    row
-    (at 10 0x0 (0x01 ∷ []) ∷ [])
-    (ask 6 2 0 0) (0 ∷ 0 ∷ 0 ∷ [])
-    []
-    []
+    record {
+      stored = [];
+      event = ask 6 2 0 0;
+      answer = code 0 0;
+      memory = [];
+      table = [];
+    }
     ∷
     []
