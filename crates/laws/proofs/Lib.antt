@@ -1,1 +1,5 @@
+-- Laws about the definitions of `rules`, by subject.
 pub mod Chop
+pub mod Numbers
+pub mod Widths
+pub mod Records
