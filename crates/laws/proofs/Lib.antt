@@ -3,3 +3,6 @@ pub mod Chop
 pub mod Numbers
 pub mod Widths
 pub mod Records
+pub mod Ranges
+pub mod Counts
+pub mod TableByte

@@ -3,8 +3,9 @@ use mathlib.Core.Path.{_≡_, refl, sym, _∙_, ap}
 use mathlib.Core.List.{List, [], _∷_, _++_}
 use Prim.Native.Nat.{ℕ, zero, suc, _+_, _*_, _/_, _%_, _^_, _<_}
 use native.Mathlib.Nat.{zero-add, suc-add, add-suc, add-zero, mul-add, mul-assoc, add-assoc, pow-succ', pow-zero, one-mul, div-div-eq-div-mul, div-one, pow-suc, mod-lt, one-le-pow}
-use lib.ListN.{length, getD, set}
-use lib.Seq.{sets}
+use lib.ListN.{length, getD, set, take}
+use native.Mathlib.Omega.{arith}
+use lib.Seq.{sets, take-suc, length-take-le}
 use lib.Dec.{lit<}
 use lib.Arith.{mod-mul, digits-mod, digits-div}
 use Rattle.rules.specs.Words.{number, little}
@@ -27,6 +28,12 @@ little-add (suc a) b n = rw (suc-add, little-add a b (n / 256)) (simp (div-div-e
 pub sets-append : {A : Type 0} (l : List A) (i : ℕ) (xs ys : List A) → sets l i (xs ++ ys) ≡ sets (sets l i xs) (i + length xs) ys
 sets-append l i [] ys = simp add-zero
 sets-append l i (x ∷ xs) ys = sets-append (set l i x) (suc i) xs ys ∙ simp (add-suc, suc-add)
+
+-- one store more
+pub sets-more : {A : Type 0} (l : List A) (i : ℕ) (vs : List A) (j : ℕ) (d : A) → j < length vs
+    → set (sets l i (take j vs)) (i + j) (getD vs j d) ≡ sets l i (take (suc j) vs)
+sets-more l i vs j d h =
+    rw (take-suc vs j d h, sets-append l i (take j vs) (getD vs j d ∷ []), length-take-le j vs (omega arith))
 
 -- only the lowest bytes matter
 pub little-mod : (w n : ℕ) → little w (n % 256 ^ w) ≡ little w n
