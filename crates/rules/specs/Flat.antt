@@ -35,39 +35,43 @@ unfoldable pub joined : Lent → Buffers
 joined m = record { memory = join (m .memory); table = m .table; sheet = join (m .sheet) }
 
 -- "Guest memory: 4,096 x N bytes, N from 3 to 8,192"; "vCPU sheet: 512 bytes"
-unfoldable pub memory-sized : Buffers → Bool
-memory-sized b = between least-pages most-pages (length (b .table)) && eqb (length (b .memory)) (page-size * length (b .table))
+unfoldable pub memory-fits : ℕ → ℕ → Bool
+memory-fits n bytes = between least-pages most-pages n && eqb bytes (page-size * n)
 
-unfoldable pub sheet-sized : Buffers → Bool
-sheet-sized b = eqb (length (b .sheet)) (record-size * records)
+unfoldable pub memory-sized : List ℕ → List ℕ → Bool
+memory-sized table memory = memory-fits (length table) (length memory)
+
+unfoldable pub sheet-sized : List ℕ → Bool
+sheet-sized sheet = eqb (length sheet) (record-size * records)
+
+unfoldable pub well-sized : Buffers → Bool
+well-sized b = memory-sized (b .table) (b .memory) && sheet-sized (b .sheet)
 
 -- launch: "1 a size wrong", the given N among them
 unfoldable pub launch-bytes : ℕ → Plan → Buffers → Answered Launched Buffers
 launch-bytes n plan b =
     let l : Answered Launched Machine = launch plan (record { lent = parted b }) in
-    refuse b (not (memory-sized b && sheet-sized b && eqb n (length (b .table)))) WrongSize
+    refuse b (not (well-sized b && eqb n (length (b .table)))) WrongSize
     (record { answer = l .answer; after = joined (l .after .lent) })
 
--- a store is lent memory and table, a mark the sheet: "Otherwise, a wrong size included, both are refused without change"
-unfoldable pub store-bytes : ℕ → ℕ → ℕ → List ℕ → Buffers → Answered Verdict Buffers
-store-bytes c p offset bytes b =
-    let s : Answered Verdict Lent = store c p offset bytes (parted b) in
-    refuse b (not (memory-sized b)) Refused
-    (record { answer = s .answer; after = record { memory = join (s .after .memory); table = b .table; sheet = b .sheet } })
+-- a store is lent the table and changes memory, a mark changes the sheet: "Otherwise, a wrong size included, both are refused without
+-- change"
+unfoldable pub store-bytes : ℕ → ℕ → ℕ → List ℕ → List ℕ → List ℕ → Answered Verdict (List ℕ)
+store-bytes c p offset bytes table memory =
+    let s : Answered Verdict Lent = store c p offset bytes (parted (record { memory = memory; table = table; sheet = [] })) in
+    refuse memory (not (memory-sized table memory)) Refused (record { answer = s .answer; after = join (s .after .memory) })
 
-unfoldable pub mark-bytes : ℕ → ℕ → Buffers → Answered Verdict Buffers
-mark-bytes i value b =
-    let s : Answered Verdict Lent = mark i value (parted b) in
-    refuse b (not (sheet-sized b)) Refused
-    (record { answer = s .answer; after = record { memory = b .memory; table = b .table; sheet = join (s .after .sheet) } })
+unfoldable pub mark-bytes : ℕ → ℕ → List ℕ → Answered Verdict (List ℕ)
+mark-bytes i value sheet =
+    let s : Answered Verdict Lent = mark i value (parted (record { memory = []; table = []; sheet = sheet })) in
+    refuse sheet (not (sheet-sized sheet)) Refused (record { answer = s .answer; after = join (s .after .sheet) })
 
 -- the call, with the registers as one record
 unfoldable pub call-bytes : ℕ → Posed Registers Buffers → Answered Outcome (Posed Registers Buffers)
 call-bytes caller s =
-    let b : Buffers = s .machine in
     let a : Answered Outcome (Posed Registers Machine) =
-    call caller (record { registers = s .registers; machine = record { lent = parted b } }) in
-    refuse s (not (memory-sized b && sheet-sized b)) BadMachine
+    call caller (record { registers = s .registers; machine = record { lent = parted (s .machine) } }) in
+    refuse s (not (well-sized (s .machine))) BadMachine
     (record { answer = a .answer; after = record { registers = a .after .registers; machine = joined (a .after .machine .lent) } })
 
 -- "Registers: 48 bytes, eight each: RAX, RCX, RDX, R8, R9, and the exit reason"
