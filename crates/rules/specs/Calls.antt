@@ -1,11 +1,10 @@
 -- "The eight calls, checks in order": all but Pvalidate and Deposit, which are in Lists.
 use Rattle.rules.specs.Words.{ℕ, _+_, _-_, _*_, _/_, Bool, cond, not, _&&_, _||_, List, [], _∷_, _++_, leb, ltb, eqb, length, take, sets}
-use Rattle.rules.specs.Words.{page-size, record-size, records-without-pool, multiple, bits, bit, without-bit, little, exists, lowest, places}
-use Rattle.rules.specs.Words.{each}
+use Rattle.rules.specs.Words.{page-size, record-size, multiple, bits, bit, without-bit, little, exists, lowest, places, each}
 use Rattle.rules.specs.Answers.{Code, Success, OneMorePage, Address, Parameter, Request, InUse, Answered, refuse}
-use Rattle.rules.specs.Machine.{Lent, _▷_, N, page-of, offset-of, page-at, write, zeros, plain, calling-area, pool-free, pool-in-use, vmsa-page}
-use Rattle.rules.specs.Machine.{owner, grant, revoke, own, change, owned-by, usable, Vcpu, fields, laid-out, is-live, holds, record-at, vcpu}
-use Rattle.rules.specs.Machine.{startup, amend, vmsa-vmpl, vmsa-features, efer}
+use Rattle.rules.specs.Machine.{Lent, _▷_, page-of, offset-of, page-at, write, zeros, owner, plain, calling-area, pool-free, pool-in-use}
+use Rattle.rules.specs.Machine.{vmsa-area, grant, revoke, own, change, owned-by, usable, Vcpu, fields, laid-out, is-live, holds, needs-page}
+use Rattle.rules.specs.Machine.{record-at, vcpu, startup, amend, vmsa-vmpl, vmsa-features, efer}
 use Rattle.rules.specs.Launch.{unfit-vmsa}
 use Rattle.rules.specs.Lists.{bad-list-page}
 
@@ -30,26 +29,26 @@ remap caller rcx m =
 
 -- "2 Create. RCX VMSA, RDX calling area, R8 bits 31:0 APIC ID": what is asked for
 pub record Asked : Type 0 where
-  pub vmpl : ℕ
+  pub caller-vmpl : ℕ
   pub vmsa : ℕ
   pub calling : ℕ
   pub apic-id : ℕ
 
 unfoldable pub asked : ℕ → ℕ → ℕ → ℕ → Lent → Asked
 asked caller rcx rdx r8 m =
-    record { vmpl = vcpu m caller .vmpl; vmsa = page-of rcx; calling = page-of rdx; apic-id = bits 31 0 r8 }
+    record { caller-vmpl = vcpu m caller .vmpl; vmsa = page-of rcx; calling = page-of rdx; apic-id = bits 31 0 r8 }
 
 -- "Either page not below N, not valid, not plain, or both the same"
 unfoldable pub unfit-pages : Asked → Lent → Bool
 unfit-pages a m =
-    let unfit : ℕ → Bool = λ p. not (usable (a .vmpl) m p) || not (owned-by plain m p) in
+    let unfit : ℕ → Bool = λ p. not (usable (a .caller-vmpl) m p) || not (owned-by plain m p) in
     unfit (a .vmsa) || unfit (a .calling) || eqb (a .vmsa) (a .calling)
 
 -- "VMSA's VMPL 0, above 3, or below the caller's; EFER bit 12 clear; features unlike record 0's; APIC ID of a live record (house)"
 unfoldable pub unfit-vcpu : Asked → Lent → Bool
 unfit-vcpu a m =
     let page : List ℕ = page-at m (a .vmsa) in
-    unfit-vmsa page || ltb (vmsa-vmpl page) (a .vmpl)
+    unfit-vmsa page || ltb (vmsa-vmpl page) (a .caller-vmpl)
     || not (eqb (vmsa-features page) (startup m .features))
     || exists (λ r. is-live r && eqb (fields r .apic-id) (a .apic-id)) (m .sheet)
 
@@ -57,14 +56,14 @@ unfit-vcpu a m =
 unfoldable pub free-record : Lent → ℕ
 free-record m = lowest (λ r. not (is-live r)) (m .sheet)
 
-unfoldable pub needs-page : ℕ → Bool
-needs-page i = leb records-without-pool i
-
 unfoldable pub is-free : ℕ → Bool
 is-free b = eqb (owner b) pool-free
 
 unfoldable pub free-page : Lent → ℕ
 free-page m = lowest is-free (m .table)
+
+unfoldable pub any-free : Lent → Bool
+any-free m = exists is-free (m .table)
 
 -- "record filled, not running"
 unfoldable pub new-record : Asked → ℕ → Lent → List ℕ
@@ -86,7 +85,7 @@ new-record a i m =
 unfoldable pub created : Asked → ℕ → Lent → Lent
 created a i m =
     m
-    ▷ change (λ b. b ▷ revoke ▷ own vmsa-page) (a .vmsa)
+    ▷ change (λ b. b ▷ revoke ▷ own vmsa-area) (a .vmsa)
     ▷ change (own calling-area) (a .calling)
     ▷ (λ now. cond (needs-page i) (change (own pool-in-use) (free-page m) now) now)
     ▷ amend (λ old. new-record a i m) i
@@ -100,7 +99,7 @@ create caller rcx rdx r8 m =
     (refuse m (unfit-pages a m) Address
     (refuse m (unfit-vcpu a m) Parameter
     (refuse m (leb (length (m .sheet)) i) Request
-    (refuse m (needs-page i && leb (N m) (free-page m)) OneMorePage
+    (refuse m (needs-page i && not (any-free m)) OneMorePage
     (record { answer = Success; after = created a i m })))))
 
 -- "3 Delete. .. EFER bit 12 in its VMSA page cleared"
@@ -118,11 +117,11 @@ deleted vmpl i m =
     ▷ (λ now. cond (holds (record-at m i)) (change (own pool-free) (v .pool-page) now) now)
     ▷ amend (λ old. zeros record-size) i
 
--- the record meant: "no live record's VMSA (the lowest record counts, should two name it)"
+-- the record meant: "the lowest record counts, should two name it"
 unfoldable pub named-by : ℕ → Lent → ℕ
 named-by p m = lowest (λ r. is-live r && eqb (fields r .vmsa) p) (m .sheet)
 
--- "RCX not a multiple of 4,096, no live record's VMSA, the startup's, or of a record whose VMPL is below the caller's: PARAMETER.
+-- "RCX not a multiple of 4,096, no live record's VMSA (..), the startup's, or of a record whose VMPL is below the caller's: PARAMETER.
 -- Another vCPU, and running: 0x80001003"
 unfoldable pub delete : ℕ → ℕ → Lent → Answered Code Lent
 delete caller rcx m =
@@ -155,7 +154,8 @@ withdrawn vmpl rcx m =
 
 -- "RCX not a multiple of 8, or offset 0xFF8: PARAMETER. List page as above: ADDRESS"; "Never incomplete"
 unfoldable pub withdraw : ℕ → ℕ → Lent → Answered Code Lent
-withdraw vmpl rcx m =
+withdraw caller rcx m =
+    let vmpl : ℕ = vcpu m caller .vmpl in
     refuse m (not (multiple 8 rcx) || eqb (offset-of rcx) 0xFF8) Parameter
     (refuse m (bad-list-page vmpl rcx m) Address
     (record { answer = Success; after = withdrawn vmpl rcx m }))

@@ -1,11 +1,12 @@
 -- "A host written in Rust or C calls the core with numbers and byte buffers only": the definitions that public promises cite. Each tests
 -- the sizes of what it is lent, gives everything back unchanged where one is wrong, and else hands over to the definition on pages.
 use Rattle.rules.specs.Words.{ℕ, zero, suc, _*_, Bool, not, _&&_, List, [], _∷_, _++_, eqb, length, take, drop, page-size, least-pages}
-use Rattle.rules.specs.Words.{most-pages, records, record-size, between, little, number}
-use Rattle.rules.specs.Answers.{Registers, Outcome, BadMachine, Launched, WrongSize, Verdict, Refused, Answered, refuse}
+use Rattle.rules.specs.Words.{most-pages, records, record-size, registers-size, between, little, number}
+use Rattle.rules.specs.Answers.{Outcome, BadMachine, Launched, WrongSize, Verdict, Refused, Registers, Answered, refuse}
 use Rattle.rules.specs.Machine.{Lent, Machine}
 use Rattle.rules.specs.Launch.{Plan, launch}
 use Rattle.rules.specs.Steps.{store, mark}
+use Rattle.rules.specs.Sound.{sound}
 use Rattle.rules.specs.Call.{Posed, call}
 
 -- the first n parts of a list, `size` elements each; and parts joined again
@@ -46,6 +47,10 @@ sheet-sized sheet = eqb (length sheet) (record-size * records)
 
 unfoldable pub well-sized : Buffers → Bool
 well-sized b = memory-sized (b .table) (b .memory) && sheet-sized (b .sheet)
+
+-- a sound machine as it is lent
+unfoldable pub sound-bytes : Buffers → Bool
+sound-bytes b = well-sized b && sound (parted b)
 
 -- launch: "1 a size wrong", the given N among them
 unfoldable pub launch-bytes : ℕ → Plan → Buffers → Answered Launched Buffers
@@ -89,5 +94,5 @@ unfoldable pub door-bytes : ℕ → Posed (List ℕ) Buffers → Answered Outcom
 door-bytes caller s =
     let a : Answered Outcome (Posed Registers Buffers) =
     call-bytes caller (record { registers = registers-of (s .registers); machine = s .machine }) in
-    refuse s (not (eqb (length (s .registers)) 48)) BadMachine
+    refuse s (not (eqb (length (s .registers)) registers-size)) BadMachine
     (record { answer = a .answer; after = record { registers = register-bytes (a .after .registers); machine = a .after .machine } })

@@ -1,10 +1,10 @@
 -- "Launch."
 use Rattle.rules.specs.Words.{ℕ, _+_, _-_, Bool, cond, not, _&&_, _||_, List, [], _∷_, map, leb, ltb, eqb, replicate, records, record-size}
-use Rattle.rules.specs.Words.{between, bit, range}
+use Rattle.rules.specs.Words.{between, bit, range, count}
 use Rattle.rules.specs.Answers.{Launched, Made, OutOfRange, AreasMeet, UnfitVmsa, Answered, refuse}
 use Rattle.rules.specs.Machine.{Lent, Machine, N, below, page-at, write, zeros, laid-out, vmsa-vmpl, vmsa-features, efer}
 
--- "Given N" (Flat compares it) "the monitor's first page and count, startup VMSA page, calling page, APIC ID, and V"
+-- "Given N" (which Flat compares) "the monitor's first page and count .., startup VMSA page, calling page, APIC ID, and V .."
 pub record Plan : Type 0 where
   pub first : ℕ
   pub count : ℕ

@@ -1,10 +1,10 @@
 -- "1 Pvalidate, 4 Deposit", and the list page that Withdraw shares with them.
-use Rattle.rules.specs.Words.{ℕ, zero, suc, _+_, _-_, _*_, min, Bool, cond, not, _&&_, _||_, List, leb, ltb, eqb, page-size, entries-a-call}
-use Rattle.rules.specs.Words.{large, multiple, bits, bit, little, number, range, every, each}
-use Rattle.rules.specs.Answers.{Code, Success, Incomplete, Address, Parameter, SizeMismatch, NoChange, ListCall, Pvalidate, Deposit, Wish}
-use Rattle.rules.specs.Answers.{Invalid, Valid, Pool, Entry, Reads, Unread, Answered, refuse}
+use Rattle.rules.specs.Words.{ℕ, zero, suc, _+_, _-_, _*_, min, Bool, cond, not, _&&_, _||_, List, leb, ltb, eqb, page-size, large, multiple}
+use Rattle.rules.specs.Words.{bits, bit, little, number, range, every, count, each}
+use Rattle.rules.specs.Answers.{Code, Success, Incomplete, Address, Parameter, SizeMismatch, NoChange, Entry, Reads, Unread, ListCall}
+use Rattle.rules.specs.Answers.{Pvalidate, Deposit, Wish, Invalid, Valid, Pool, Answered, refuse}
 use Rattle.rules.specs.Machine.{Lent, _▷_, below, page-of, offset-of, page-at, write, fill, plain, calling-area, pool-free, valid, grant}
-use Rattle.rules.specs.Machine.{revoke, own, make-valid, make-invalid, table-byte, change, owned-by, usable}
+use Rattle.rules.specs.Machine.{revoke, own, make-valid, make-invalid, table-byte, put, owned-by, usable, vcpu}
 
 -- "List page not below N, not valid, neither plain nor calling, or calling with page offset 0"
 unfoldable pub bad-list-page : ℕ → ℕ → Lent → Bool
@@ -48,64 +48,77 @@ unfoldable pub covered : ℕ → List ℕ
 covered e = range (entry-first e) (entry-pages e)
 
 -- "Sizes 2 and 3, a reserved bit set (Pvalidate 11:4, Deposit 11:2), or a size-1 page not a multiple of 512"
-unfoldable pub reserved : ListCall → ℕ → ℕ
-reserved Pvalidate e = bits 11 4 e
-reserved Deposit e = bits 11 2 e
+unfoldable pub reserved-bits : ListCall → ℕ → ℕ
+reserved-bits Pvalidate e = bits 11 4 e
+reserved-bits Deposit e = bits 11 2 e
 
 unfoldable pub malformed : ListCall → ℕ → Bool
 malformed call e =
-    ltb 1 (bits 1 0 e) || not (eqb (reserved call e) 0) || eqb (bits 1 0 e) 1 && not (multiple large (entry-first e))
+    ltb 1 (bits 1 0 e) || not (eqb (reserved-bits call e) 0) || eqb (bits 1 0 e) 1 && not (multiple large (entry-first e))
 
 -- "Any covered page not below N, not plain, or holding this list"
-unfoldable pub coverable : ℕ → Lent → ℕ → Bool
-coverable rcx m p = below m p && owned-by plain m p && not (eqb p (page-of rcx))
+unfoldable pub coverable : ℕ → ℕ → Lent → ℕ → Bool
+coverable caller rcx m p = below m p && owned-by plain m p && not (eqb p (page-of rcx))
 
 -- "bit 2 is the wished validity, bit 3 ignores "no change". Covered pages not all of equal validity: 0x80001006. Already as wished and
 -- bit 3 clear: 0x80001010"; "Deposit: a covered page not valid: ADDRESS"
 unfoldable pub read-covered : ListCall → ℕ → ℕ → Lent → Entry
-read-covered Pvalidate vmpl e m =
+read-covered Pvalidate caller e m =
     let valid-all : Bool = every (λ p. valid (table-byte m p)) (covered e) in
     let valid-none : Bool = every (λ p. not (valid (table-byte m p))) (covered e) in
     cond (not valid-all && not valid-none) (Unread SizeMismatch)
     (cond (cond (bit 2 e) valid-all valid-none && not (bit 3 e)) (Unread NoChange)
     (Reads (entry-first e) (entry-pages e) (cond (bit 2 e) Valid Invalid)))
-read-covered Deposit vmpl e m =
-    cond (not (every (usable vmpl m) (covered e))) (Unread Address) (Reads (entry-first e) (entry-pages e) Pool)
+read-covered Deposit caller e m =
+    cond (not (every (usable (vcpu m caller .vmpl) m) (covered e))) (Unread Address) (Reads (entry-first e) (entry-pages e) Pool)
 
 -- "An entry either reads cleanly into its range and wishes or is refused on the spot"
 unfoldable pub read-entry : ListCall → ℕ → ℕ → ℕ → Lent → Entry
-read-entry call vmpl rcx e m =
+read-entry call caller rcx e m =
     cond (malformed call e) (Unread Parameter)
-    (cond (not (every (coverable rcx m) (covered e))) (Unread Address)
-    (read-covered call vmpl e m))
+    (cond (not (every (coverable caller rcx m) (covered e))) (Unread Address)
+    (read-covered call caller e m))
 
--- what a wish does to one page. "wish 0: revoke, make invalid. Wish 1: make valid, fill with zeros, grant the caller's VMPL";
--- "Deposit: .. revoke; pool free. Bytes stay"
+-- "wish 0: revoke, make invalid. Wish 1: make valid, .. grant the caller's VMPL, also when bit 3 excused no change"; "Deposit: .. revoke;
+-- pool free": a page's table byte
+unfoldable pub wished : Wish → ℕ → ℕ → ℕ
+wished Invalid vmpl b = b ▷ revoke ▷ make-invalid
+wished Valid vmpl b = b ▷ make-valid ▷ grant vmpl
+wished Pool vmpl b = b ▷ revoke ▷ own pool-free
+
+-- "Wish 1: .. fill with zeros"; "Bytes stay": its memory
+unfoldable pub cleared : Wish → ℕ → Lent → Lent
+cleared Invalid p m = m
+cleared Valid p m = fill p m
+cleared Pool p m = m
+
+-- one page of an entry, and an entry of one page or of 512
 unfoldable pub carry-out : Wish → ℕ → ℕ → Lent → Lent
-carry-out Invalid vmpl p m = m ▷ change (λ b. b ▷ revoke ▷ make-invalid) p
-carry-out Valid vmpl p m = m ▷ fill p ▷ change (λ b. b ▷ make-valid ▷ grant vmpl) p
-carry-out Pool vmpl p m = m ▷ change (λ b. b ▷ revoke ▷ own pool-free) p
+carry-out wish vmpl p m = m ▷ cleared wish p ▷ put p (wished wish vmpl (table-byte m p))
 
--- entry k carried out on all its pages, and the run goes on; or refused: "its index is then stored, earlier entries stand"
+unfoldable pub carry-out-all : Wish → ℕ → ℕ → ℕ → Lent → Lent
+carry-out-all wish vmpl first count m = each (carry-out wish vmpl) (range first count) m
+
+-- entry k carried out, and the run goes on; or refused: "its index is then stored, earlier entries stand"
 unfoldable pub after-entry : Entry → ℕ → ℕ → ℕ → (Lent → Answered Code Lent) → Lent → Answered Code Lent
-after-entry (Reads first count wish) vmpl rcx k go-on m = go-on (each (carry-out wish vmpl) (range first count) m)
-after-entry (Unread code) vmpl rcx k go-on m = record { answer = code; after = store-index k rcx m }
+after-entry (Reads first count wish) caller rcx k go-on m = go-on (carry-out-all wish (vcpu m caller .vmpl) first count m)
+after-entry (Unread code) caller rcx k go-on m = record { answer = code; after = store-index k rcx m }
 
 -- `todo` entries from index k on. "If all is well the new index is stored; the code is incomplete if entries remain, else success"
 unfoldable pub run : ListCall → ℕ → ℕ → ℕ → ℕ → Lent → Answered Code Lent
-run call vmpl rcx zero k m = record { answer = cond (ltb k (list-count rcx m)) Incomplete Success; after = store-index k rcx m }
-run call vmpl rcx (suc todo) k m =
-    after-entry (read-entry call vmpl rcx (list-entry k rcx m) m) vmpl rcx k (run call vmpl rcx todo (suc k)) m
+run call caller rcx zero k m = record { answer = cond (ltb k (list-count rcx m)) Incomplete Success; after = store-index k rcx m }
+run call caller rcx (suc todo) k m =
+    after-entry (read-entry call caller rcx (list-entry k rcx m) m) caller rcx k (run call caller rcx todo (suc k)) m
 
--- a budget of entries, done from next
+-- a budget of entries, "done from next"
 unfoldable pub run-within : ℕ → ListCall → ℕ → ℕ → Lent → Answered Code Lent
-run-within budget call vmpl rcx m = run call vmpl rcx (min budget (list-count rcx m - list-next rcx m)) (list-next rcx m) m
+run-within budget call caller rcx m = run call caller rcx (min budget (list-count rcx m - list-next rcx m)) (list-next rcx m) m
 
--- the head's checks; "Then up to 32 entries (house) are done from next"
-unfoldable pub list-call : ListCall → ℕ → ℕ → Lent → Answered Code Lent
-list-call call vmpl rcx m =
+-- the head's checks in order; "Up to here the list is untouched"; then the run
+unfoldable pub list-call : ℕ → ListCall → ℕ → ℕ → Lent → Answered Code Lent
+list-call budget call caller rcx m =
     refuse m (not (multiple 8 rcx)) Parameter
-    (refuse m (bad-list-page vmpl rcx m) Address
+    (refuse m (bad-list-page (vcpu m caller .vmpl) rcx m) Address
     (refuse m (bad-count rcx m) Parameter
     (refuse m (bad-next rcx m) Parameter
-    (run-within entries-a-call call vmpl rcx m))))
+    (run-within budget call caller rcx m))))

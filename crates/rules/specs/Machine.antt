@@ -1,7 +1,7 @@
 -- "The machine as it is lent": memory as pages, the page table's bytes, the vCPU sheet as records.
 -- All is total: what lies outside reads as zeros, and a write there changes nothing.
 use Rattle.rules.specs.Words.{ℕ, _+_, _*_, _/_, _%_, Bool, cond, _&&_, List, [], _∷_, _++_, leb, ltb, eqb, length, getD, set, replicate, sets}
-use Rattle.rules.specs.Words.{page-size, between, bits, bit, with-bit, without-bit, little, number}
+use Rattle.rules.specs.Words.{page-size, records-without-pool, between, bits, bit, with-bit, without-bit, little, number}
 
 infixl 10 _▷_
 -- what the calls are lent to change
@@ -13,6 +13,9 @@ pub record Lent : Type 0 where
 -- the machine, which launch and the call see whole: what later requests put beside the lent buffers will be fields more
 pub record Machine : Type 0 where
   pub lent : Lent
+
+unfoldable pub with-lent : Lent → Machine → Machine
+with-lent lent m = record { lent = lent }
 
 -- "Effects come in the order written": m, then the effect f
 abbrev pub _▷_ : {A B : Type 0} → A → (A → B) → B
@@ -42,14 +45,15 @@ put-page p page m = record { memory = set (m .memory) p page; table = m .table; 
 unfoldable pub write : ℕ → ℕ → List ℕ → Lent → Lent
 write p offset bytes m = put-page p (sets (page-at m p) offset bytes) m
 
--- the zero page, and page p filled with zeros
+-- n zeros, and page p filled with zeros
 unfoldable pub zeros : ℕ → List ℕ
 zeros n = replicate n 0
 
 unfoldable pub fill : ℕ → Lent → Lent
 fill p m = put-page p (zeros page-size) m
 
--- "Page table: one byte a page. Bits 2:0 owner: 0 plain, 1 calling area, 2 monitor, 3 pool free, 4 pool in use, 5 VMSA"
+-- "Page table: one byte a page. Bits 2:0 owner: 0 plain, 1 calling area, 2 monitor, 3 pool free, 4 pool in use, 5 VMSA;
+-- 6 and 7 are nobody's and count as not plain"
 unfoldable pub owner : ℕ → ℕ
 owner b = bits 2 0 b
 
@@ -68,8 +72,8 @@ pool-free = 3
 abbrev pub pool-in-use : ℕ
 pool-in-use = 4
 
-abbrev pub vmsa-page : ℕ
-vmsa-page = 5
+abbrev pub vmsa-area : ℕ
+vmsa-area = 5
 
 -- "Bit 3 valid. Bits 4, 5, 6 full permission for VMPL 1, 2, 3": no other VMPL has any
 unfoldable pub valid : ℕ → Bool
@@ -97,7 +101,7 @@ make-valid b = with-bit 3 b
 unfoldable pub make-invalid : ℕ → ℕ
 make-invalid b = without-bit 3 b
 
--- the table byte of page p; the one way to write it; and the single-page step, which changes it by f
+-- the table byte of page p; the one way to write it; and over that the single-page step, which changes it by f
 unfoldable pub table-byte : Lent → ℕ → ℕ
 table-byte m p = getD (m .table) p 0
 
@@ -107,14 +111,15 @@ put p b m = record { memory = m .memory; table = set (m .table) p b; sheet = m .
 unfoldable pub change : (ℕ → ℕ) → ℕ → Lent → Lent
 change f p m = put p (f (table-byte m p)) m
 
--- tests of a page: its owner; and "below N" and "valid", for a caller of this VMPL
+-- tests of a page: its owner; and "below N" and "valid", for a caller of this VMPL, which does not bear on them
 unfoldable pub owned-by : ℕ → Lent → ℕ → Bool
 owned-by o m p = eqb (owner (table-byte m p)) o
 
 unfoldable pub usable : ℕ → Lent → ℕ → Bool
 usable vmpl m p = below m p && valid (table-byte m p)
 
--- "vCPU sheet": the fields of a record, and the bytes of one
+-- "+0 live (0/1), +1 VMPL, +2 running (0/1), +3 holds a pool page (0/1), +4 APIC ID (4), +8 VMSA page (4), +12 calling-area page (4),
+-- +16 pool page (4; 0 if none held), +20 zeros (4), +24 SEV features (8; ..)": read from a record, and laid out as one
 pub record Vcpu : Type 0 where
   pub live : ℕ
   pub vmpl : ℕ
@@ -152,6 +157,10 @@ is-live r = eqb (fields r .live) 1
 
 unfoldable pub holds : List ℕ → Bool
 holds r = eqb (fields r .holding) 1
+
+-- "A live record from 4 up holds a pool page, 0 to 3 never do"
+unfoldable pub needs-page : ℕ → Bool
+needs-page i = leb records-without-pool i
 
 -- record i, and the record changed by f. "Record 0 is the startup vCPU"
 unfoldable pub record-at : Lent → ℕ → List ℕ

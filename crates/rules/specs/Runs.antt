@@ -1,12 +1,12 @@
--- Steps and runs, and the pages that a step takes in and gives back.
-use Rattle.rules.specs.Words.{ℕ, _+_, _-_, Bool, cond, not, _&&_, _||_, List, [], _∷_, eqb, multiple, count, range}
-use Rattle.rules.specs.Answers.{Registers, Outcome, Answered, outcome-number}
-use Rattle.rules.specs.Machine.{Lent, Machine, pool-free, pool-in-use, owner, vcpu}
+-- Steps and runs on a machine of right size, and the pages that a step takes in and gives back.
+use Rattle.rules.specs.Words.{ℕ, _+_, _-_, Bool, cond, not, _&&_, _||_, List, [], _∷_, eqb, multiple, range, count}
+use Rattle.rules.specs.Answers.{Outcome, Registers, outcome-number, Answered}
+use Rattle.rules.specs.Machine.{Lent, Machine, with-lent, owner, pool-free, pool-in-use, vcpu}
 use Rattle.rules.specs.Steps.{store, mark}
-use Rattle.rules.specs.Lists.{bad-list-page, in-list, bad-count, bad-next, list-next, list-entry, entry-pages}
-use Rattle.rules.specs.Call.{Posed, call, protocol, call-number}
+use Rattle.rules.specs.Lists.{bad-list-page, in-list, list-next, list-entry, bad-count, bad-next, entry-pages}
+use Rattle.rules.specs.Call.{Posed, protocol, call-number, call}
 
--- "any run of calls, stores and marks": a call by this record with these registers; a store of VMPL, page, offset and bytes; a mark of
+-- a call by this record with these registers; a store of VMPL, page, offset and bytes; a mark of
 -- this record, running or not
 pub data Step : Type 0 where
   calls : ℕ → Registers → Step
@@ -18,8 +18,8 @@ called caller g m = call caller (record { registers = g; machine = m })
 
 unfoldable pub step : Step → Machine → Machine
 step (calls caller g) m = called caller g m .after .machine
-step (stores c p offset bytes) m = record { lent = store c p offset bytes (m .lent) .after }
-step (marks i value) m = record { lent = mark i value (m .lent) .after }
+step (stores c p offset bytes) m = with-lent (store c p offset bytes (m .lent) .after) m
+step (marks i value) m = with-lent (mark i value (m .lent) .after) m
 
 unfoldable pub run-steps : List Step → Machine → Machine
 run-steps [] m = m
@@ -29,10 +29,11 @@ run-steps (s ∷ ss) m = run-steps ss (step s m)
 unfoldable pub pool : Lent → ℕ
 pool m = count (λ b. eqb (owner b) pool-free || eqb (owner b) pool-in-use) (m .table)
 
--- call n, with outcome 0
+-- outcome 0, and RAX asked for call n
 unfoldable pub handled-as : ℕ → ℕ → Registers → Machine → Bool
 handled-as n caller g m = eqb (outcome-number (called caller g m .answer)) 0 && eqb (protocol g) 0 && eqb (call-number g) n
 
+-- the head passes every check of `list-call`
 unfoldable pub head-accepted : ℕ → ℕ → Lent → Bool
 head-accepted vmpl rcx m = multiple 8 rcx && not (bad-list-page vmpl rcx m) && not (bad-count rcx m) && not (bad-next rcx m)
 

@@ -1,8 +1,8 @@
--- "A sound machine", as the faults that a program could look for: sound is no page and no record at fault.
+-- "A sound machine", as the faults that a program could look for: sound is right sizes, and no page and no record at fault.
 use Rattle.rules.specs.Words.{ℕ, Bool, false, cond, not, _&&_, _||_, List, [], _∷_, _++_, leb, ltb, eqb, length, page-size, least-pages}
-use Rattle.rules.specs.Words.{most-pages, records, record-size, records-without-pool, between, bits, range, every, count}
-use Rattle.rules.specs.Machine.{Lent, N, plain, calling-area, monitor, pool-free, pool-in-use, vmsa-page, owner, valid, permitted, table-byte}
-use Rattle.rules.specs.Machine.{Vcpu, fields, is-live, holds, record-at, vcpu, startup}
+use Rattle.rules.specs.Words.{most-pages, records, record-size, between, bits, range, every, count}
+use Rattle.rules.specs.Machine.{Lent, N, owner, plain, calling-area, monitor, pool-free, pool-in-use, vmsa-area, valid, permitted, table-byte}
+use Rattle.rules.specs.Machine.{Vcpu, fields, is-live, holds, needs-page, record-at, vcpu, startup}
 
 -- what outcome 3 names in a record: "a live, running or holding byte above 1; a live record with VMPL outside 1 to 3 or a page (the pool
 -- page if held) at or above N"
@@ -17,7 +17,7 @@ unfoldable pub claim : List ℕ → ℕ → List ℕ
 claim r p =
     let v : Vcpu = fields r in
     let say : Bool → ℕ → List ℕ = λ says o. cond (is-live r && says) (o ∷ []) [] in
-    say (eqb (v .vmsa) p) vmsa-page ++ say (eqb (v .calling) p) calling-area ++ say (holds r && eqb (v .pool-page) p) pool-in-use
+    say (eqb (v .vmsa) p) vmsa-area ++ say (eqb (v .calling) p) calling-area ++ say (holds r && eqb (v .pool-page) p) pool-in-use
 
 unfoldable pub claims : List (List ℕ) → ℕ → List ℕ
 claims [] p = []
@@ -46,7 +46,7 @@ page-fault m p =
 unfoldable pub live-fault : Lent → ℕ → Bool
 live-fault m i =
     let v : Vcpu = vcpu m i in
-    not (eqb (v .holding) (cond (ltb i records-without-pool) 0 1))
+    not (eqb (v .holding) (cond (needs-page i) 1 0))
     || eqb (v .holding) 0 && not (eqb (v .pool-page) 0)
     || not (eqb (v .spare) 0)
     || not (eqb i 0) && not (eqb (v .features) 0)
@@ -59,12 +59,16 @@ record-fault m i =
     let r : List ℕ = record-at m i in
     bad-record (N m) r || cond (is-live r) (live-fault m i) (eqb i 0 || not (every (eqb 0) r))
 
--- the sizes, since outcome 3 names them
-unfoldable pub sized : Lent → Bool
-sized m =
-    between least-pages most-pages (N m)
-    && eqb (length (m .memory)) (N m) && every (λ page. eqb (length page) page-size) (m .memory)
-    && eqb (length (m .sheet)) records && every (λ r. eqb (length r) record-size) (m .sheet)
+-- the sizes of pages and records, since outcome 3 names them; those of the lent bytes are tested in Flat
+unfoldable pub table-sized : Lent → Bool
+table-sized m =
+    between least-pages most-pages (N m) && eqb (length (m .sheet)) records && every (λ r. eqb (length r) record-size) (m .sheet)
+
+unfoldable pub pages-sized : Lent → Bool
+pages-sized m = eqb (length (m .memory)) (N m) && every (λ page. eqb (length page) page-size) (m .memory)
 
 unfoldable pub sound : Lent → Bool
-sound m = sized m && every (λ p. eqb (page-fault m p) 0) (range 0 (N m)) && every (λ i. not (record-fault m i)) (range 0 records)
+sound m =
+    table-sized m && pages-sized m
+    && every (λ p. eqb (page-fault m p) 0) (range 0 (N m))
+    && every (λ i. not (record-fault m i)) (range 0 records)

@@ -1,7 +1,7 @@
 -- "Other steps": the store and the mark.
 use Rattle.rules.specs.Words.{ℕ, _+_, Bool, not, _&&_, List, leb, ltb, length, set, page-size, records}
 use Rattle.rules.specs.Answers.{Verdict, Done, Refused, Answered, refuse}
-use Rattle.rules.specs.Machine.{Lent, below, table-byte, valid, permitted, write, is-live, record-at, amend}
+use Rattle.rules.specs.Machine.{Lent, below, write, valid, permitted, table-byte, is-live, record-at, amend}
 
 -- "It is done exactly when the VMPL is 1 to 3, the page below N, offset plus length at most 4,096, and the page valid and permitted to
 -- that VMPL" (`permitted` holds of VMPL 1 to 3 alone)

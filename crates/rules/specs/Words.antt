@@ -36,6 +36,10 @@ entries-a-call = 32
 unfoldable pub large : ℕ
 large = 512
 
+-- "Registers: 48 bytes"
+unfoldable pub registers-size : ℕ
+registers-size = 48
+
 -- n is from low to high
 unfoldable pub between : ℕ → ℕ → ℕ → Bool
 between low high n = leb low n && leb n high
