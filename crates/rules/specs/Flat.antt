@@ -1,6 +1,6 @@
 -- "A host written in Rust or C calls the core with numbers and byte buffers only": the definitions that public promises cite. Each tests
 -- the sizes of what it is lent, gives everything back unchanged where one is wrong, and else hands over to the definition on pages.
-use Rattle.rules.specs.Words.{ℕ, zero, suc, _*_, Bool, not, _&&_, List, [], _∷_, _++_, eqb, length, take, drop, page-size, least-pages}
+use Rattle.rules.specs.Words.{ℕ, zero, suc, _*_, _/_, Bool, not, _&&_, List, [], _∷_, _++_, eqb, length, take, drop, page-size, least-pages}
 use Rattle.rules.specs.Words.{most-pages, records, record-size, registers-size, between, little, number}
 use Rattle.rules.specs.Answers.{Outcome, BadMachine, Launched, WrongSize, Verdict, Refused, Registers, Answered, refuse}
 use Rattle.rules.specs.Machine.{Lent, Machine}
@@ -9,10 +9,13 @@ use Rattle.rules.specs.Steps.{store, mark}
 use Rattle.rules.specs.Sound.{sound}
 use Rattle.rules.specs.Call.{Posed, call}
 
--- the first n parts of a list, `size` elements each; and parts joined again
+-- the first n parts of a list, `size` elements each; as many as there are; and parts joined again
 unfoldable pub chop : {A : Type 0} → ℕ → ℕ → List A → List (List A)
 chop zero size l = []
 chop (suc n) size l = take size l ∷ chop n size (drop size l)
+
+unfoldable pub parts : {A : Type 0} → ℕ → List A → List (List A)
+parts size l = chop (length l / size) size l
 
 unfoldable pub join : {A : Type 0} → List (List A) → List A
 join [] = []
@@ -25,12 +28,7 @@ pub record Buffers : Type 0 where
   pub sheet : List ℕ
 
 unfoldable pub parted : Buffers → Lent
-parted b =
-    record {
-      memory = chop (length (b .table)) page-size (b .memory);
-      table = b .table;
-      sheet = chop records record-size (b .sheet);
-    }
+parted b = record { memory = parts page-size (b .memory); table = b .table; sheet = parts record-size (b .sheet) }
 
 unfoldable pub joined : Lent → Buffers
 joined m = record { memory = join (m .memory); table = m .table; sheet = join (m .sheet) }

@@ -38,19 +38,22 @@ offset-of gpa = gpa % page-size
 unfoldable pub page-at : Lent → ℕ → List ℕ
 page-at m p = getD (m .memory) p []
 
-unfoldable pub put-page : ℕ → List ℕ → Lent → Lent
-put-page p page m = record { memory = set (m .memory) p page; table = m .table; sheet = m .sheet }
+unfoldable pub with-memory : List (List ℕ) → Lent → Lent
+with-memory pages m = record { memory = pages; table = m .table; sheet = m .sheet }
 
--- bytes written in page p from `offset` on
+-- pages with bytes written in page p from `offset` on
+unfoldable pub written : ℕ → ℕ → List ℕ → List (List ℕ) → List (List ℕ)
+written p offset bytes pages = set pages p (sets (getD pages p []) offset bytes)
+
 unfoldable pub write : ℕ → ℕ → List ℕ → Lent → Lent
-write p offset bytes m = put-page p (sets (page-at m p) offset bytes) m
+write p offset bytes m = with-memory (written p offset bytes (m .memory)) m
 
 -- n zeros, and page p filled with zeros
 unfoldable pub zeros : ℕ → List ℕ
 zeros n = replicate n 0
 
 unfoldable pub fill : ℕ → Lent → Lent
-fill p m = put-page p (zeros page-size) m
+fill p m = with-memory (set (m .memory) p (zeros page-size)) m
 
 -- "Page table: one byte a page. Bits 2:0 owner: 0 plain, 1 calling area, 2 monitor, 3 pool free, 4 pool in use, 5 VMSA;
 -- 6 and 7 are nobody's and count as not plain"
