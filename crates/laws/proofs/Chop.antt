@@ -49,9 +49,8 @@ module _ {A : Type 0} where
   part (suc n) size l (suc p) h = part n size (drop size l) p (omega arith) ∙ rw (drop-drop, mul-suc, add-comm (size * p) size)
 
   -- each part has that size
-  pub length-part : (n size : ℕ) (l : List A) (p : ℕ) → p < n → length l ≡ size * n → length (getD (chop n size l) p []) ≡ size
-  length-part n size l p h e =
-      rw part (length-take-le size (drop (size * p) l) (omega (arith, length-drop (size * p) l, mul-le-mul-left size h)))
+  pub length-part : (n size : ℕ) (l : List A) (p : ℕ) → p < n → size * p + size ≤ length l → length (getD (chop n size l) p []) ≡ size
+  length-part n size l p h e = rw part (length-take-le size (drop (size * p) l) (omega (arith, length-drop (size * p) l)))
 
   -- element o of part p is element size * p + o of the list
   pub chop-read : (n size : ℕ) (l : List A) (p o : ℕ) (d : A) → p < n → o < size
@@ -84,15 +83,15 @@ module _ {A : Type 0} where
   sets-whole l vs h = sets-eq vs l 0 (omega arith) ∙ rw (drop-of-length-le l {i = 0 + length vs} (omega arith), append-nil vs)
 
   -- as many other elements in the place of part p are the new part p
-  pub chop-replace : (n size : ℕ) (l : List A) (p : ℕ) (new : List A) → p < n → length l ≡ size * n → length new ≡ size
+  pub chop-replace : (n size : ℕ) (l : List A) (p : ℕ) (new : List A) → p < n → size * p + size ≤ length l → length new ≡ size
       → chop n size (take (size * p) l ++ (new ++ drop (size * p + size) l)) ≡ set (chop n size l) p new
   chop-replace n size l p new h e b =
-      let stored = sets-eq new l (size * p) (omega (arith, mul-le-mul-left size h)) in
+      let stored = sets-eq new l (size * p) (omega arith) in
       let whole = sets-whole (getD (chop n size l) p []) new (omega (arith, length-part n size l p h e)) in
       rw (stored, append-assoc, b, whole) at (simp add-zero at (chop-stores n size l p 0 new h (omega arith)))
 
   -- the same, as a part of a mutable slice comes back
-  pub chop-put : (n size : ℕ) (l : List A) (p : ℕ) (new : List A) → p < n → length l ≡ size * n → length new ≡ size
+  pub chop-put : (n size : ℕ) (l : List A) (p : ℕ) (new : List A) → p < n → size * p + size ≤ length l → length new ≡ size
       → chop n size (putMid (size * p) size l new) ≡ set (chop n size l) p new
   chop-put n size l p new h e b = rw drop-drop (chop-replace n size l p new h e b)
 

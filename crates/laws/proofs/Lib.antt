@@ -1,5 +1,6 @@
 -- Laws about the definitions of `rules`, by subject.
 pub mod Chop
+pub mod Parts
 pub mod Numbers
 pub mod Widths
 pub mod Records

@@ -1,0 +1,59 @@
+-- Laws of the parts of a buffer: what is read and written in a part is read and written in the buffer.
+use mathlib.Core.Path.{_≡_, refl, sym, _∙_, ap}
+use mathlib.Core.List.{List, [], _∷_}
+use Prim.Native.Nat.{ℕ, _+_, _*_, _/_, _<_, _≤_}
+use native.Mathlib.Omega.{arith}
+use native.Mathlib.Nat.{mul-div-cancel-left, add-zero, le-div-iff-mul-le, mul-comm}
+use lib.ListN.{length, getD, set, length-append, length-drop}
+use lib.Seq.{sets, length-sets, length-take-le}
+use borrow.Rule.Slice.PartMut.{putMid}
+use Rattle.rules.specs.Words.{number}
+use Rattle.rules.specs.Machine.{written}
+use Rattle.rules.specs.Flat.{chop, parts, join}
+use Rattle.laws.proofs.Chop.{join-chop, length-chop, length-part, chop-read, chop-stores, chop-put, chop-number}
+
+module _ {A : Type 0} where
+  pub length-parts : (size : ℕ) (l : List A) → length (parts size l) ≡ length l / size
+  unfolding parts
+  length-parts size l = length-chop (length l / size) size l
+
+  -- the parts of a buffer that has n of them
+  pub parts-chop : (n size : ℕ) (l : List A) → 0 < size → length l ≡ size * n → parts size l ≡ chop n size l
+  unfolding parts
+  parts-chop n size l pos e = rw (e, mul-div-cancel-left n pos)
+
+  -- joined, they are the buffer
+  pub join-parts : (n size : ℕ) (l : List A) → 0 < size → length l ≡ size * n → join (parts size l) ≡ l
+  join-parts n size l pos e = rw (parts-chop n size l pos e) (join-chop n size l e)
+
+  -- an element of a part
+  pub parts-read : (size : ℕ) (l : List A) (p o : ℕ) (d : A) → p < length (parts size l) → o < size
+      → getD (getD (parts size l) p []) o d ≡ getD l (size * p + o) d
+  unfolding parts
+  parts-read size l p o d h b = chop-read (length l / size) size l p o d (rw length-parts at h) b
+
+-- a number in a part
+pub parts-number : (size : ℕ) (l : List ℕ) (p o w : ℕ) → p < length (parts size l) → o + w ≤ size
+    → number w (getD (parts size l) p []) o ≡ number w l (size * p + o)
+unfolding parts
+parts-number size l p o w h b = chop-number (length l / size) size l p o w (rw length-parts at h) b
+
+-- bytes written in a part
+pub parts-written : (size : ℕ) (l : List ℕ) (p o : ℕ) (vs : List ℕ) → p < length (parts size l) → o + length vs ≤ size
+    → parts size (sets l (size * p + o) vs) ≡ written p o vs (parts size l)
+unfolding parts written
+parts-written size l p o vs h b = rw length-sets (chop-stores (length l / size) size l p o vs (rw length-parts at h) b)
+
+-- part p ends within the buffer
+pub part-within : (size : ℕ) (l : List ℕ) (p : ℕ) → 0 < size → p < length (parts size l) → size * p + size ≤ length l
+part-within size l p pos h = omega (arith, le-div-iff-mul-le pos .0 (rw length-parts at h), mul-comm size p)
+
+-- a whole part put in its place
+pub parts-put : (size : ℕ) (l : List ℕ) (p : ℕ) (new : List ℕ) → 0 < size → p < length (parts size l) → length new ≡ size
+    → parts size (putMid (size * p) size l new) ≡ set (parts size l) p new
+unfolding parts
+parts-put size l p new pos h f =
+    let within : size * p + size ≤ length l = part-within size l p pos h in
+    let same : length (putMid (size * p) size l new) ≡ length l =
+    simp (length-append, length-drop) (omega (arith, length-take-le (size * p) l (omega arith))) in
+    rw same (chop-put (length l / size) size l p new (rw length-parts at h) within f)
