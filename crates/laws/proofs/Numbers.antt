@@ -7,7 +7,7 @@ use Prim.Native.Nat.{ℕ, zero, suc, _+_, _*_, _/_, _%_, _^_, _<_, _≤_}
 use native.Mathlib.Omega.{arith}
 use native.Mathlib.Nat.{add-zero, add-suc, suc-add, add-assoc, pow-suc, mod-eq-of-lt, one-le-pow}
 use lib.Arith.{mod-mul}
-use lib.ListN.{length, getD, take, drop, set, List·getD-append}
+use lib.ListN.{length, getD, take, drop, set, length-replicate, List·getD-append}
 use lib.Seq.{sets, sets-eq, length-take-le, getD-append-add, getD-set-other, drop-cons}
 use Rattle.rules.specs.Words.{little, number}
 use Rattle.rules.specs.Machine.{zeros}
@@ -102,6 +102,11 @@ little-number (suc w) l at h b =
     let high : (getD l at 0 + 256 * number w l (suc at)) / 256 ≡ number w l (suc at) = omega arith in
     let rest = little-number w l (suc at) (λ k c. simp suc-add (simp add-suc at (h (suc k) (omega arith)))) (omega arith) in
     rw (drop-cons l at 0 (omega arith)) (ap₂ _∷_ (omega arith) (ap (little w) high ∙ rest))
+
+-- n zeros are n
+pub length-zeros : (n : ℕ) → length (zeros n) ≡ n
+unfolding zeros
+length-zeros n = length-replicate n 0
 
 -- among zeros each byte is 0
 pub zeros-at : (n i : ℕ) → getD (zeros n) i 0 ≡ 0

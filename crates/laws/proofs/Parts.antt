@@ -1,12 +1,12 @@
 -- Laws of the parts of a buffer: what is read and written in a part is read and written in the buffer.
 use mathlib.Core.Path.{_≡_, refl, sym, _∙_, ap}
-use mathlib.Core.List.{List, [], _∷_}
-use Prim.Native.Nat.{ℕ, _+_, _*_, _/_, _<_, _≤_}
+use mathlib.Core.List.{List, [], _∷_, append-nil, append-assoc}
+use Prim.Native.Nat.{ℕ, _+_, _-_, _*_, _/_, _<_, _≤_}
 use native.Mathlib.Omega.{arith}
-use native.Mathlib.Nat.{mul-div-cancel-left, add-zero, le-div-iff-mul-le, mul-comm}
-use lib.ListN.{length, getD, set, length-append, length-drop}
-use lib.Seq.{sets, length-sets, length-take-le}
-use borrow.Rule.Slice.PartMut.{putMid}
+use native.Mathlib.Nat.{mul-div-cancel-left, zero-add, le-div-iff-mul-le, mul-comm}
+use lib.ListN.{length, getD, set, drop, length-append, length-drop, drop-of-length-le}
+use lib.Seq.{sets, length-sets, length-take-le, take-all, drop-drop, sets-eq}
+use borrow.Rule.Slice.PartMut.{midOf, putMid}
 use Rattle.rules.specs.Words.{number}
 use Rattle.rules.specs.Machine.{written}
 use Rattle.rules.specs.Flat.{chop, parts, join}
@@ -57,3 +57,12 @@ parts-put size l p new pos h f =
     let same : length (putMid (size * p) size l new) ≡ length l =
     simp (length-append, length-drop) (omega (arith, length-take-le (size * p) l (omega arith))) in
     rw same (chop-put (length l / size) size l p new (rw length-parts at h) within f)
+
+-- bytes stored at the front of what lies from a on are stored at a
+pub sets-tail : (a : ℕ) (l vs : List ℕ) → a + length vs ≤ length l
+    → putMid a (length l - a) l (sets (midOf a (length l - a) l) 0 vs) ≡ sets l a vs
+sets-tail a l vs h =
+    let tail : midOf a (length l - a) l ≡ drop a l = take-all (length l - a) (drop a l) (omega (arith, length-drop a l)) in
+    let none : drop (length l - a) (drop a l) ≡ [] = drop-of-length-le (drop a l) {i = length l - a} (omega (arith, length-drop a l)) in
+    rw (tail, none, append-nil (sets (drop a l) 0 vs), sets-eq vs (drop a l) 0 (omega (arith, length-drop a l)), sets-eq vs l a h)
+    (simp (zero-add, drop-drop, append-assoc))

@@ -1,0 +1,61 @@
+-- `pages::memory::fill_page` meets its contract: the part that was lent comes back as zeros, in the page's place.
+-- Assumes nothing.
+use mathlib.Core.Path.{_≡_, _∙_, ap}
+use Prim.Native.Nat.{_+_, _-_, _*_}
+use native.Mathlib.Omega.{arith}
+use lib.ListN.{length}
+use denote.Ref.{now}
+use borrow.Rule.Slice.PartMut.{midOf, mid-len}
+use Rattle.rules.specs.Words.{page-size}
+use Rattle.rules.specs.Machine.{zeros}
+use Rattle.laws.proofs.Numbers.{length-zeros}
+use Rattle.laws.proofs.Parts.{parts-put}
+use Rattle.pages.proofs.Within.{positive, page-ends}
+use borrow.Author.Needs.{needs}
+use Rattle.pages.proofs.memory.fill_page.Statement.{statement}
+use Rattle.pages.proofs.memory.fill_page.Tie as tie
+
+mul-start : tie.Need-mul-start
+mul-start c = omega (arith, page-ends (now (c .before .args .memory)) (c .before .args .page) (c .before .pre))
+
+add-end : tie.Need-add-end
+add-end c = omega (arith, page-ends (now (c .before .args .memory)) (c .before .args .page) (c .before .pre))
+
+sub-fill : tie.Need-sub-fill
+sub-fill c = search needs
+
+part-fill-start : tie.Need-part-fill-start
+part-fill-start c = search needs
+
+part-fill-end : tie.Need-part-fill-end
+part-fill-end c = omega (arith, page-ends (now (c .before .args .memory)) (c .before .args .page) (c .before .pre))
+
+fill-requires : tie.Need-fill-requires
+fill-requires c κs = search needs
+
+same-length : tie.Need-same-length
+same-length c = search needs
+
+returns : tie.Need-returns
+unfolding page-size
+returns c =
+    let start = c .before .before .before .before .before in
+    let memory = now (start .args .memory) in
+    let page = start .args .page in
+    let ends = page-ends memory page (start .pre) in
+    let size : 4096 * page + 4096 - 4096 * page ≡ 4096 = omega arith in
+    let filled = c .before .before .fill .ensures ∙ ap zeros (mid-len (4096 * page) (4096 * page + 4096) memory ends ∙ size) in
+    rw (filled, size) (parts-put page-size memory page (zeros page-size) positive (start .pre) (length-zeros page-size))
+
+pub fill-page-spec : {M : Type 1} → statement M
+fill-page-spec =
+    tie.close
+    (tie.spec
+    mul-start
+    add-end
+    sub-fill
+    part-fill-start
+    part-fill-end
+    fill-requires
+    same-length
+    returns)

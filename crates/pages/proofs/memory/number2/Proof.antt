@@ -1,0 +1,26 @@
+-- `pages::memory::number2` meets its contract: a number of a page is that number of memory.
+-- Assumes nothing.
+use mathlib.Core.Path.{sym, _∙_}
+use native.Mathlib.Omega.{arith}
+use Rattle.rules.specs.Words.{page-size}
+use Rattle.laws.proofs.Parts.{parts-number}
+use Rattle.pages.proofs.Within.{place-ends}
+use Rattle.pages.proofs.memory.number2.Statement.{statement}
+use Rattle.pages.proofs.memory.number2.Tie as tie
+use Rattle.words.proofs.read2.Reads as read2-reads
+
+mul-read2 : tie.Need-mul-read2
+mul-read2 c = omega (arith, place-ends (c .before .pre))
+
+add-read2 : tie.Need-add-read2
+add-read2 c = omega (arith, place-ends (c .before .pre))
+
+read2-requires : tie.Need-read2-requires
+read2-requires c κs = omega (arith, place-ends (c .before .pre))
+
+returns : tie.Need-returns
+unfolding page-size
+returns c = c .read2 .ensures ∙ sym (parts-number page-size _ _ _ 2 (c .before .before .pre .below) (c .before .before .pre .within))
+
+pub number2-spec : {M : Type 1} → statement M
+number2-spec = tie.close (tie.spec mul-read2 add-read2 read2-requires returns)

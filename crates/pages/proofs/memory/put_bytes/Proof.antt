@@ -1,0 +1,55 @@
+-- `pages::memory::put_bytes` meets its contract: the part that was lent comes back with the bytes over its front.
+-- Assumes nothing.
+use mathlib.Core.Path.{_≡_, _∙_, ap}
+use native.Mathlib.Omega.{arith}
+use denote.Ref.{now}
+use Rattle.rules.specs.Words.{page-size}
+use Rattle.rules.specs.Flat.{parts}
+use lib.ListN.{length-take, length-drop}
+use Rattle.laws.proofs.Parts.{parts-written, sets-tail}
+use Rattle.pages.proofs.Within.{place-ends}
+use borrow.Author.Needs.{needs}
+use Rattle.pages.proofs.memory.put_bytes.Statement.{statement}
+use Rattle.pages.proofs.memory.put_bytes.Tie as tie
+
+mul-start : tie.Need-mul-start
+mul-start c = omega (arith, place-ends (c .before .before .pre))
+
+add-start : tie.Need-add-start
+add-start c = omega (arith, place-ends (c .before .before .pre))
+
+sub-copy : tie.Need-sub-copy
+sub-copy c = omega (arith, place-ends (c .before .before .pre))
+
+part-copy-start : tie.Need-part-copy-start
+part-copy-start c = omega (arith, place-ends (c .before .before .pre))
+
+part-copy-end : tie.Need-part-copy-end
+part-copy-end c = search needs
+
+copy-requires : tie.Need-copy-requires
+copy-requires c κs = simp (length-take, length-drop) (omega (arith, place-ends (c .before .before .before .pre)))
+
+same-length : tie.Need-same-length
+same-length c = search needs
+
+returns : tie.Need-returns
+unfolding page-size
+returns c =
+    let start = c .before .before .before .before .before .before in
+    let ends = place-ends (start .pre) in
+    ap (parts page-size) (rw (c .before .before .copy .ensures) (sets-tail _ (now (start .args .memory)) (now (start .args .bytes)) (omega arith)))
+    ∙ parts-written page-size _ _ _ _ (start .pre .below) (start .pre .within)
+
+pub put-bytes-spec : {M : Type 1} → statement M
+put-bytes-spec =
+    tie.close
+    (tie.spec
+    mul-start
+    add-start
+    sub-copy
+    part-copy-start
+    part-copy-end
+    copy-requires
+    same-length
+    returns)
