@@ -1,14 +1,12 @@
--- A place in a page is a place in memory.
+-- A page ends within memory.
 -- Assumes nothing.
 use Prim.Native.Nat.{ℕ, _+_, _*_, _<_, _≤_}
 use mathlib.Core.List.{List}
-use native.Mathlib.Omega.{arith}
 use lib.ListN.{length}
 use lib.Dec.{lit<}
 use Rattle.rules.specs.Words.{page-size}
 use Rattle.rules.specs.Flat.{parts}
 use Rattle.laws.proofs.Parts.{part-within}
-use Rattle.pages.specs.Place.{Place}
 
 pub positive : 0 < page-size
 unfolding page-size
@@ -17,7 +15,3 @@ positive = lit< tt
 pub page-ends : (memory : List ℕ) (page : ℕ) → page < length (parts page-size memory) → 4096 * page + 4096 ≤ length memory
 unfolding page-size
 page-ends memory page h = part-within page-size memory page positive h
-
-pub place-ends : {memory : List ℕ} {page offset width : ℕ} → Place memory page offset width → 4096 * page + offset + width ≤ length memory
-unfolding page-size
-place-ends {memory} {page} p = omega (arith, page-ends memory page (p .below), p .within)

@@ -1,5 +1,5 @@
 -- "What a call comes back with": the four outcomes in their order, the tests of RAX, the last writes.
-use Rattle.rules.specs.Words.{ℕ, Bool, cond, not, _||_, [], _∷_, leb, eqb, getD, records, entries-a-call, bits, exists}
+use Rattle.rules.specs.Words.{ℕ, Bool, cond, not, _||_, List, [], _∷_, leb, eqb, getD, records, entries-a-call, bits, exists}
 use Rattle.rules.specs.Answers.{Outcome, Handled, NoCall, Gone, BadMachine, Code, Success, UnknownProtocol, UnknownCall, BadPending, Registers}
 use Rattle.rules.specs.Answers.{Pvalidate, Deposit, code-number, Answered, refuse}
 use Rattle.rules.specs.Machine.{Lent, Machine, with-lent, _▷_, N, page-at, write, is-live, record-at, vcpu, startup}
@@ -19,9 +19,13 @@ unfoldable pub with-rcx : ℕ → Registers → Registers
 with-rcx rcx g = record { rax = g .rax; rcx = rcx; rdx = g .rdx; r8 = g .r8; r9 = g .r9; reason = g .reason }
 
 -- "3 bad machine": "caller above 15 or not live; record 0 not live", and what a record may not hold; the sizes are tested in Flat
+unfoldable pub bad-sheet : ℕ → ℕ → List (List ℕ) → Bool
+bad-sheet n caller sheet =
+    let live : ℕ → Bool = λ i. is-live (getD sheet i []) in
+    leb records caller || not (live caller) || not (live 0) || exists (bad-record n) sheet
+
 unfoldable pub bad-machine : ℕ → Lent → Bool
-bad-machine caller m =
-    leb records caller || not (is-live (record-at m caller)) || not (is-live (record-at m 0)) || exists (bad-record (N m)) (m .sheet)
+bad-machine caller m = bad-sheet (N m) caller (m .sheet)
 
 -- "The pending byte is byte 0 of the caller's calling page"
 unfoldable pub pending : ℕ → Lent → ℕ

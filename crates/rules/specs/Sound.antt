@@ -6,11 +6,13 @@ use Rattle.rules.specs.Machine.{Vcpu, fields, is-live, holds, needs-page
 
 -- what outcome 3 names in a record: "a live, running or holding byte above 1; a live record with VMPL outside 1 to 3 or a page (the pool
 -- page if held) at or above N"
-unfoldable pub bad-record : ℕ → List ℕ → Bool
-bad-record n r =
+unfoldable pub bad-names : ℕ → List ℕ → Bool
+bad-names n r =
     let v : Vcpu = fields r in
-    ltb 1 (v .live) || ltb 1 (v .running) || ltb 1 (v .holding)
-    || is-live r && (not (between 1 3 (v .vmpl)) || leb n (v .vmsa) || leb n (v .calling) || holds r && leb n (v .pool-page))
+    not (between 1 3 (v .vmpl)) || leb n (v .vmsa) || leb n (v .calling) || holds r && leb n (v .pool-page)
+
+unfoldable pub bad-record : ℕ → List ℕ → Bool
+bad-record n r = ltb 1 (fields r .live) || ltb 1 (fields r .running) || ltb 1 (fields r .holding) || is-live r && bad-names n r
 
 -- the owners that live records claim for page p: "the pages that live records name as VMSA, calling page and held pool page"
 unfoldable pub claim : List ℕ → ℕ → List ℕ

@@ -1,12 +1,11 @@
--- `pages::memory::number8` meets its contract: a number of a page is that number of memory.
+-- `parts::number8` meets its contract: a number of a part is that number of the slice.
 -- Assumes nothing.
 use mathlib.Core.Path.{sym, _∙_}
 use native.Mathlib.Omega.{arith}
-use Rattle.rules.specs.Words.{page-size}
 use Rattle.laws.proofs.Parts.{parts-number}
-use Rattle.pages.proofs.Within.{place-ends}
-use Rattle.pages.proofs.memory.number8.Statement.{statement}
-use Rattle.pages.proofs.memory.number8.Tie as tie
+use Rattle.parts.proofs.Within.{place-ends}
+use Rattle.parts.proofs.number8.Statement.{statement}
+use Rattle.parts.proofs.number8.Tie as tie
 use Rattle.words.proofs.read8.Reads as read8-reads
 
 mul-read8 : tie.Need-mul-read8
@@ -19,8 +18,7 @@ read8-requires : tie.Need-read8-requires
 read8-requires c κs = omega (arith, place-ends (c .before .pre))
 
 returns : tie.Need-returns
-unfolding page-size
-returns c = c .read8 .ensures ∙ sym (parts-number page-size _ _ _ 8 (c .before .before .pre .below) (c .before .before .pre .within))
+returns c = c .read8 .ensures ∙ sym (parts-number _ _ _ _ 8 (c .before .before .pre .below) (c .before .before .pre .within))
 
 pub number8-spec : {M : Type 1} → statement M
 number8-spec = tie.close (tie.spec mul-read8 add-read8 read8-requires returns)

@@ -1,16 +1,14 @@
--- `pages::memory::put_number2` meets its contract: a number written in a page is written in memory.
+-- `parts::put_number2` meets its contract: a number written in a part is written in the slice.
 -- Assumes nothing.
-use Rattle.rules.specs.Flat.{parts}
 use mathlib.Core.Path.{_∙_, ap}
 use native.Mathlib.Omega.{arith}
-use lib.ListN.{length}
-use Rattle.rules.specs.Words.{page-size}
+use Rattle.rules.specs.Flat.{parts}
 use Rattle.laws.proofs.Numbers.{length-little}
 use Rattle.laws.proofs.Parts.{parts-written}
-use Rattle.pages.proofs.Within.{place-ends}
+use Rattle.parts.proofs.Within.{place-ends}
 use borrow.Author.Needs.{needs}
-use Rattle.pages.proofs.memory.put_number2.Statement.{statement}
-use Rattle.pages.proofs.memory.put_number2.Tie as tie
+use Rattle.parts.proofs.put_number2.Statement.{statement}
+use Rattle.parts.proofs.put_number2.Tie as tie
 use Rattle.words.proofs.write2.Reads as write2-reads
 
 mul-write2 : tie.Need-mul-write2
@@ -26,10 +24,10 @@ same-length : tie.Need-same-length
 same-length c = search needs
 
 returns : tie.Need-returns
-unfolding page-size
-returns c = ap (parts page-size) (c .before .before .write2 .ensures)
-    ∙ parts-written page-size _ _ _ _ (c .before .before .before .before .before .pre .below)
-    (omega (arith, length-little 2 (c .before .before .before .before .before .args .x), c .before .before .before .before .before .pre .within))
+returns c =
+    let start = c .before .before .before .before .before in
+    ap (parts (start .args .size)) (c .before .before .write2 .ensures)
+    ∙ parts-written _ _ _ _ _ (start .pre .below) (omega (arith, length-little 2 (start .args .x), start .pre .within))
 
 pub put-number2-spec : {M : Type 1} → statement M
 put-number2-spec = tie.close (tie.spec mul-write2 add-write2 write2-requires same-length returns)

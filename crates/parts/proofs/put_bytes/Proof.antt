@@ -1,16 +1,15 @@
--- `pages::memory::put_bytes` meets its contract: the part that was lent comes back with the bytes over its front.
+-- `parts::put_bytes` meets its contract: the part that was lent comes back with the bytes over its front.
 -- Assumes nothing.
 use mathlib.Core.Path.{_≡_, _∙_, ap}
 use native.Mathlib.Omega.{arith}
 use denote.Ref.{now}
-use Rattle.rules.specs.Words.{page-size}
-use Rattle.rules.specs.Flat.{parts}
 use lib.ListN.{length-take, length-drop}
+use Rattle.rules.specs.Flat.{parts}
 use Rattle.laws.proofs.Parts.{parts-written, sets-tail}
-use Rattle.pages.proofs.Within.{place-ends}
+use Rattle.parts.proofs.Within.{place-ends}
 use borrow.Author.Needs.{needs}
-use Rattle.pages.proofs.memory.put_bytes.Statement.{statement}
-use Rattle.pages.proofs.memory.put_bytes.Tie as tie
+use Rattle.parts.proofs.put_bytes.Statement.{statement}
+use Rattle.parts.proofs.put_bytes.Tie as tie
 
 mul-start : tie.Need-mul-start
 mul-start c = omega (arith, place-ends (c .before .before .pre))
@@ -34,12 +33,11 @@ same-length : tie.Need-same-length
 same-length c = search needs
 
 returns : tie.Need-returns
-unfolding page-size
 returns c =
     let start = c .before .before .before .before .before .before in
     let ends = place-ends (start .pre) in
-    ap (parts page-size) (rw (c .before .before .copy .ensures) (sets-tail _ (now (start .args .memory)) (now (start .args .bytes)) (omega arith)))
-    ∙ parts-written page-size _ _ _ _ (start .pre .below) (start .pre .within)
+    ap (parts (start .args .size)) (rw (c .before .before .copy .ensures) (sets-tail _ (now (start .args .s)) (now (start .args .bytes)) (omega arith)))
+    ∙ parts-written _ _ _ _ _ (start .pre .below) (start .pre .within)
 
 pub put-bytes-spec : {M : Type 1} → statement M
 put-bytes-spec =

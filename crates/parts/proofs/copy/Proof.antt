@@ -1,4 +1,4 @@
--- `pages::memory::copy` meets its contract. The loop's invariant: the bytes passed are stored, at the front. The measure is what is left of them.
+-- `parts::copy` meets its contract. The loop's invariant: the bytes passed are stored, at the front. The measure is what is left of them.
 -- Assumes nothing.
 use mathlib.Core.Path.{_≡_, refl, sym, _∙_, ap}
 use Prim.Native.Nat.{ℕ, _-_, _≤_, _<_, zero-le}
@@ -9,23 +9,23 @@ use lib.ListN.{length, take, length-set}
 use lib.Seq.{sets, length-sets, take-all}
 use denote.Ref.{now}
 use Rattle.laws.proofs.Widths.{sets-more}
-use Rattle.pages.proofs.memory.copy.Statement.{statement}
-use Rattle.pages.proofs.memory.copy.Tie as tie
+use Rattle.parts.proofs.copy.Statement.{statement}
+use Rattle.parts.proofs.copy.Tie as tie
 
 abbrev Inv-loop : tie.InvT-loop
-Inv-loop part₀ bytes i₀ part i = (part ≡ sets part₀ 0 (take i bytes)) × (length part ≡ length part₀) × (i ≤ length bytes)
+Inv-loop s₀ bytes i₀ s i = (s ≡ sets s₀ 0 (take i bytes)) × (length s ≡ length s₀) × (i ≤ length bytes)
 
 abbrev μ-loop : tie.MeasureT-loop
-μ-loop part₀ bytes i₀ part i = length bytes - i
+μ-loop s₀ bytes i₀ s i = length bytes - i
 
 loop-holds : tie.Need-loop-holds Inv-loop μ-loop
 loop-holds c = (refl, refl, zero-le)
 
-shared-slice-read-part : tie.Need-shared-slice-read-part Inv-loop μ-loop
-shared-slice-read-part c = omega arith
+shared-slice-read-s : tie.Need-shared-slice-read-s Inv-loop μ-loop
+shared-slice-read-s c = omega arith
 
-slice-write-part : tie.Need-slice-write-part Inv-loop μ-loop
-slice-write-part c = omega arith
+slice-write-s : tie.Need-slice-write-s Inv-loop μ-loop
+slice-write-s c = omega arith
 
 add-i : tie.Need-add-i Inv-loop μ-loop
 add-i c = omega arith
@@ -38,7 +38,7 @@ loop-again c =
     let l = c .before .before .loop in
     let a = c .before .before .before .args in
     let in-bytes : l .i < length (now (a .bytes)) = omega arith in
-    (rw (l .inv .0, add-one) (rw zero-add at (sets-more {A = ℕ} (now (a .part)) 0 (now (a .bytes)) (l .i) 0 in-bytes)), simp length-set (l .inv .1), omega arith)
+    (rw (l .inv .0, add-one) (rw zero-add at (sets-more {A = ℕ} (now (a .s)) 0 (now (a .bytes)) (l .i) 0 in-bytes)), simp length-set (l .inv .1), omega arith)
 
 same-length : tie.Need-same-length Inv-loop μ-loop
 same-length c = c .before .loop .inv .1
@@ -55,8 +55,8 @@ copy-spec =
     Inv-loop
     μ-loop
     loop-holds
-    shared-slice-read-part
-    slice-write-part
+    shared-slice-read-s
+    slice-write-s
     add-i
     loop-less
     loop-again

@@ -1,16 +1,14 @@
--- `pages::memory::put_number8` meets its contract: a number written in a page is written in memory.
+-- `parts::put_number8` meets its contract: a number written in a part is written in the slice.
 -- Assumes nothing.
-use Rattle.rules.specs.Flat.{parts}
 use mathlib.Core.Path.{_∙_, ap}
 use native.Mathlib.Omega.{arith}
-use lib.ListN.{length}
-use Rattle.rules.specs.Words.{page-size}
+use Rattle.rules.specs.Flat.{parts}
 use Rattle.laws.proofs.Numbers.{length-little}
 use Rattle.laws.proofs.Parts.{parts-written}
-use Rattle.pages.proofs.Within.{place-ends}
+use Rattle.parts.proofs.Within.{place-ends}
 use borrow.Author.Needs.{needs}
-use Rattle.pages.proofs.memory.put_number8.Statement.{statement}
-use Rattle.pages.proofs.memory.put_number8.Tie as tie
+use Rattle.parts.proofs.put_number8.Statement.{statement}
+use Rattle.parts.proofs.put_number8.Tie as tie
 use Rattle.words.proofs.write8.Reads as write8-reads
 
 mul-write8 : tie.Need-mul-write8
@@ -26,10 +24,10 @@ same-length : tie.Need-same-length
 same-length c = search needs
 
 returns : tie.Need-returns
-unfolding page-size
-returns c = ap (parts page-size) (c .before .before .write8 .ensures)
-    ∙ parts-written page-size _ _ _ _ (c .before .before .before .before .before .pre .below)
-    (omega (arith, length-little 8 (c .before .before .before .before .before .args .x), c .before .before .before .before .before .pre .within))
+returns c =
+    let start = c .before .before .before .before .before in
+    ap (parts (start .args .size)) (c .before .before .write8 .ensures)
+    ∙ parts-written _ _ _ _ _ (start .pre .below) (omega (arith, length-little 8 (start .args .x), start .pre .within))
 
 pub put-number8-spec : {M : Type 1} → statement M
 put-number8-spec = tie.close (tie.spec mul-write8 add-write8 write8-requires same-length returns)
