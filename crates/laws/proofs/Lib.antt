@@ -7,3 +7,4 @@ pub mod Records
 pub mod Ranges
 pub mod Counts
 pub mod TableByte
+pub mod FlatSteps
