@@ -10,7 +10,8 @@ use lib.Dec.{eqb, lit<, lit≤}
 use lib.ListN.{length, set}
 use lib.Seq.{sets, getD-set-same, getD-set-other}
 use Rattle.rules.specs.Words.{record-size, little, number}
-use Rattle.rules.specs.Machine.{Vcpu, fields, laid-out, is-live, holds, zeros}
+use Rattle.rules.specs.declared.Vcpu.{Vcpu}
+use Rattle.rules.specs.Machine.{fields, laid-out, is-live, holds, zeros}
 use Rattle.laws.proofs.Numbers.{length-little, number-little-fits, number-written, number-elsewhere, number-set-elsewhere, number-zeros}
 use Rattle.laws.proofs.Numbers.{getD-sets-elsewhere, zeros-at}
 
@@ -20,7 +21,7 @@ unfolding laid-out little record-size
 length-laid-out v = refl
 
 -- a record laid out has the fields that it was made of, where each fits into its bytes
-pub fields-laid-out : (v : Vcpu) → v .apic-id < 256 ^ 4 → v .vmsa < 256 ^ 4 → v .calling < 256 ^ 4 → v .pool-page < 256 ^ 4
+pub fields-laid-out : (v : Vcpu) → v .apic < 256 ^ 4 → v .vmsa < 256 ^ 4 → v .calling < 256 ^ 4 → v .pool < 256 ^ 4
     → v .spare < 256 ^ 4 → v .features < 256 ^ 8 → fields (laid-out v) ≡ v
 unfolding fields laid-out little number
 fields-laid-out v a m c p s f =
@@ -29,10 +30,10 @@ fields-laid-out v a m c p s f =
       vmpl = v .vmpl;
       running = v .running;
       holding = v .holding;
-      apic-id = number-little-fits 4 (v .apic-id) [] a i;
+      apic = number-little-fits 4 (v .apic) [] a i;
       vmsa = number-little-fits 4 (v .vmsa) [] m i;
       calling = number-little-fits 4 (v .calling) [] c i;
-      pool-page = number-little-fits 4 (v .pool-page) [] p i;
+      pool = number-little-fits 4 (v .pool) [] p i;
       spare = number-little-fits 4 (v .spare) [] s i;
       features = number-little-fits 8 (v .features) [] f i;
     }
@@ -44,10 +45,10 @@ pub fields-zeros : (n : ℕ)
       vmpl = 0;
       running = 0;
       holding = 0;
-      apic-id = 0;
+      apic = 0;
       vmsa = 0;
       calling = 0;
-      pool-page = 0;
+      pool = 0;
       spare = 0;
       features = 0;
     }
@@ -61,10 +62,10 @@ pub fields-marked : (r : List ℕ) (value : ℕ) → length r ≡ record-size
       vmpl = fields r .vmpl;
       running = value;
       holding = fields r .holding;
-      apic-id = fields r .apic-id;
+      apic = fields r .apic;
       vmsa = fields r .vmsa;
       calling = fields r .calling;
-      pool-page = fields r .pool-page;
+      pool = fields r .pool;
       spare = fields r .spare;
       features = fields r .features;
     }
@@ -80,10 +81,10 @@ pub fields-remapped : (r : List ℕ) (p : ℕ) → length r ≡ record-size → 
       vmpl = fields r .vmpl;
       running = fields r .running;
       holding = fields r .holding;
-      apic-id = fields r .apic-id;
+      apic = fields r .apic;
       vmsa = fields r .vmsa;
       calling = p;
-      pool-page = fields r .pool-page;
+      pool = fields r .pool;
       spare = fields r .spare;
       features = fields r .features;
     }

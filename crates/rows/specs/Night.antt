@@ -4,7 +4,8 @@ use Rattle.rules.specs.Words.{ℕ, zero, suc, _/_, _%_, _^_, Bool, true, false,
 use Rattle.rules.specs.declared.Registers.{Registers}
 use Rattle.rules.specs.Answers.{outcome-number, launched-number}
 use Rattle.rules.specs.Machine.{Machine, page-of, offset-of, page-at, startup}
-use Rattle.rules.specs.Launch.{Plan, launch}
+use Rattle.rules.specs.declared.Plan.{Plan}
+use Rattle.rules.specs.Launch.{launch}
 use Rattle.rules.specs.Runs.{Step, stores, called, run-steps}
 
 -- n bytes as they are written on paper, the first one first

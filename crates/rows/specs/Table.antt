@@ -2,7 +2,7 @@
 -- The memory is blank but for the two bytes of the VMSA page that launch wants: its VMPL, and EFER bit 12.
 use Rattle.rules.specs.Words.{ℕ, List, [], _∷_, _++_, replicate, set, page-size, records, record-size}
 use Rattle.rules.specs.Machine.{Machine, zeros}
-use Rattle.rules.specs.Launch.{Plan}
+use Rattle.rules.specs.declared.Plan.{Plan}
 use Rattle.rows.specs.Night.{hex, Placed, Event, launches, asks, Row}
 
 -- sixteen pages, as they are lent to launch
@@ -18,7 +18,7 @@ blank =
     }
 
 unfoldable pub plan : Plan
-plan = record { first = 12; count = 4; vmsa = 11; calling = 10; apic-id = 0; valid-below = 8 }
+plan = record { first = 12; count = 4; vmsa = 11; calling = 10; apic = 0; valid = 8 }
 
 -- the cells of the table: n bytes at a place; call RAX with RCX, RDX and R8; outcome 0 with this code and this RCX
 unfoldable pub at : ℕ → ℕ → ℕ → Placed

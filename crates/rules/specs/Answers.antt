@@ -1,5 +1,8 @@
--- The answers: the paper's number for each case of each, and how one is given.
+-- The types that cross crates; the paper's number for each case of each answer, and how an answer is given.
 use Rattle.rules.specs.Words.{ℕ, Bool, cond}
+pub use Rattle.rules.specs.declared.Registers.{Registers}
+pub use Rattle.rules.specs.declared.Vcpu.{Vcpu}
+pub use Rattle.rules.specs.declared.Plan.{Plan}
 pub use Rattle.rules.specs.declared.Outcome.{Outcome}
 pub use Rattle.rules.specs.declared.Outcome.the-variants.{Handled, NoCall, Gone, BadMachine}
 pub use Rattle.rules.specs.declared.Code.{Code}
@@ -10,7 +13,6 @@ pub use Rattle.rules.specs.declared.Verdict.{Verdict}
 pub use Rattle.rules.specs.declared.Verdict.the-variants.{Done, Refused}
 pub use Rattle.rules.specs.declared.Entry.{Entry}
 pub use Rattle.rules.specs.declared.Entry.the-variants.{Reads, Unread}
-pub use Rattle.rules.specs.declared.Registers.{Registers}
 pub use Rattle.rules.specs.declared.ListCall.{ListCall}
 pub use Rattle.rules.specs.declared.ListCall.the-variants.{Pvalidate, Deposit}
 pub use Rattle.rules.specs.declared.Wish.{Wish}

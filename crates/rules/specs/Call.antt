@@ -1,6 +1,6 @@
 -- "What a call comes back with": the four outcomes in their order, the tests of RAX, the last writes.
 use Rattle.rules.specs.Words.{ℕ, Bool, cond, not, _||_, List, [], _∷_, leb, eqb, getD, records, entries-a-call, bits, exists}
-use Rattle.rules.specs.Answers.{Outcome, Handled, NoCall, Gone, BadMachine, Code, Success, UnknownProtocol, UnknownCall, BadPending, Registers}
+use Rattle.rules.specs.Answers.{Registers, Outcome, Handled, NoCall, Gone, BadMachine, Code, Success, UnknownProtocol, UnknownCall, BadPending}
 use Rattle.rules.specs.Answers.{Pvalidate, Deposit, code-number, Answered, refuse}
 use Rattle.rules.specs.Machine.{Lent, Machine, with-lent, _▷_, N, page-at, write, is-live, record-at, vcpu, startup}
 use Rattle.rules.specs.Sound.{bad-record}

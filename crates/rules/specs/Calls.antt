@@ -1,9 +1,9 @@
 -- "The eight calls, checks in order": all but Pvalidate and Deposit, which are in Lists.
 use Rattle.rules.specs.Words.{ℕ, _+_, _-_, _*_, _/_, Bool, cond, not, _&&_, _||_, List, [], _∷_, _++_, leb, ltb, eqb, length, take, sets}
 use Rattle.rules.specs.Words.{page-size, record-size, multiple, bits, bit, without-bit, little, exists, lowest, places, each}
-use Rattle.rules.specs.Answers.{Code, Success, OneMorePage, Address, Parameter, Request, InUse, Answered, refuse}
+use Rattle.rules.specs.Answers.{Vcpu, Code, Success, OneMorePage, Address, Parameter, Request, InUse, Answered, refuse}
 use Rattle.rules.specs.Machine.{Lent, _▷_, page-of, offset-of, page-at, write, zeros, owner, plain, calling-area, pool-free, pool-in-use}
-use Rattle.rules.specs.Machine.{vmsa-area, grant, revoke, own, change, owned-by, usable, Vcpu, fields, laid-out, is-live, holds, needs-page}
+use Rattle.rules.specs.Machine.{vmsa-area, grant, revoke, own, change, owned-by, usable, fields, laid-out, is-live, holds, needs-page}
 use Rattle.rules.specs.Machine.{record-at, vcpu, startup, amend, vmsa-vmpl, vmsa-features, efer}
 use Rattle.rules.specs.Launch.{unfit-vmsa}
 use Rattle.rules.specs.Lists.{bad-list-page}
@@ -32,11 +32,11 @@ pub record Asked : Type 0 where
   pub caller-vmpl : ℕ
   pub vmsa : ℕ
   pub calling : ℕ
-  pub apic-id : ℕ
+  pub apic : ℕ
 
 unfoldable pub asked : ℕ → ℕ → ℕ → ℕ → Lent → Asked
 asked caller rcx rdx r8 m =
-    record { caller-vmpl = vcpu m caller .vmpl; vmsa = page-of rcx; calling = page-of rdx; apic-id = bits 31 0 r8 }
+    record { caller-vmpl = vcpu m caller .vmpl; vmsa = page-of rcx; calling = page-of rdx; apic = bits 31 0 r8 }
 
 -- "Either page not below N, not valid, not plain, or both the same"
 unfoldable pub unfit-pages : Asked → Lent → Bool
@@ -50,7 +50,7 @@ unfit-vcpu a m =
     let page : List ℕ = page-at m (a .vmsa) in
     unfit-vmsa page || ltb (vmsa-vmpl page) (a .caller-vmpl)
     || not (eqb (vmsa-features page) (startup m .features))
-    || exists (λ r. is-live r && eqb (fields r .apic-id) (a .apic-id)) (m .sheet)
+    || exists (λ r. is-live r && eqb (fields r .apic) (a .apic)) (m .sheet)
 
 -- "The lowest free record is used. Records 4 to 15 also need the lowest free pool page (house)"
 unfoldable pub free-record : Lent → ℕ
@@ -73,10 +73,10 @@ new-record a i m =
       vmpl = vmsa-vmpl (page-at m (a .vmsa));
       running = 0;
       holding = cond (needs-page i) 1 0;
-      apic-id = a .apic-id;
+      apic = a .apic;
       vmsa = a .vmsa;
       calling = a .calling;
-      pool-page = cond (needs-page i) (free-page m) 0;
+      pool = cond (needs-page i) (free-page m) 0;
       spare = 0;
       features = 0;
     })
@@ -114,7 +114,7 @@ deleted vmpl i m =
     ▷ clear-svme (v .vmsa)
     ▷ change (λ b. b ▷ own plain ▷ grant vmpl) (v .vmsa)
     ▷ change (own plain) (v .calling)
-    ▷ (λ now. cond (holds (record-at m i)) (change (own pool-free) (v .pool-page) now) now)
+    ▷ (λ now. cond (holds (record-at m i)) (change (own pool-free) (v .pool) now) now)
     ▷ amend (λ old. zeros record-size) i
 
 -- the record meant: "the lowest record counts, should two name it"

@@ -2,9 +2,9 @@
 -- the sizes of what it is lent, gives everything back unchanged where one is wrong, and else hands over to the definition on pages.
 use Rattle.rules.specs.Words.{ℕ, zero, suc, _*_, _/_, Bool, not, _&&_, List, [], _∷_, _++_, eqb, length, take, drop, page-size, least-pages}
 use Rattle.rules.specs.Words.{most-pages, records, record-size, registers-size, between, little, number}
-use Rattle.rules.specs.Answers.{Outcome, BadMachine, Launched, WrongSize, Verdict, Refused, Registers, Answered, refuse}
+use Rattle.rules.specs.Answers.{Registers, Plan, Outcome, BadMachine, Launched, WrongSize, Verdict, Refused, Answered, refuse}
 use Rattle.rules.specs.Machine.{Lent, Machine}
-use Rattle.rules.specs.Launch.{Plan, launch}
+use Rattle.rules.specs.Launch.{launch}
 use Rattle.rules.specs.Steps.{store, mark}
 use Rattle.rules.specs.Sound.{sound}
 use Rattle.rules.specs.Call.{Posed, call}

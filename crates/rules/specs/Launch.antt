@@ -1,26 +1,16 @@
 -- "Launch."
 use Rattle.rules.specs.Words.{ℕ, _+_, _-_, Bool, cond, not, _&&_, _||_, List, [], _∷_, map, leb, ltb, eqb, replicate, records, record-size}
 use Rattle.rules.specs.Words.{between, bit, range, count}
-use Rattle.rules.specs.Answers.{Launched, Made, OutOfRange, AreasMeet, UnfitVmsa, Answered, refuse}
-use Rattle.rules.specs.Machine.{Lent, Machine, N, below, page-at, write, zeros, laid-out, vmsa-vmpl, vmsa-features, efer}
-
--- "Given N" (which Flat compares) "the monitor's first page and count .., startup VMSA page, calling page, APIC ID, and V .."
-pub record Plan : Type 0 where
-  pub first : ℕ
-  pub count : ℕ
-  pub vmsa : ℕ
-  pub calling : ℕ
-  pub apic-id : ℕ
-  pub valid-below : ℕ
+use Rattle.rules.specs.Answers.{Plan, Launched, Made, OutOfRange, AreasMeet, UnfitVmsa, Answered, refuse}
+use Rattle.rules.specs.Machine.{Lent, Machine, N, page-at, write, zeros, valid, laid-out, vmsa-vmpl, vmsa-features, efer}
 
 unfoldable pub in-monitor : Plan → ℕ → Bool
 in-monitor plan p = leb (plan .first) p && ltb p (plan .first + plan .count)
 
--- "2 a page or V out of range, or the monitor empty"
-unfoldable pub out-of-range : Plan → Lent → Bool
-out-of-range plan m =
-    ltb (N m) (plan .first + plan .count) || not (below m (plan .vmsa)) || not (below m (plan .calling))
-    || ltb (N m) (plan .valid-below) || eqb (plan .count) 0
+-- "2 a page or V out of range, or the monitor empty", in a machine of n pages
+unfoldable pub out-of-range : Plan → ℕ → Bool
+out-of-range plan n =
+    ltb n (plan .first + plan .count) || leb n (plan .vmsa) || leb n (plan .calling) || ltb n (plan .valid) || eqb (plan .count) 0
 
 -- "3 two of the three areas meet"
 unfoldable pub areas-meet : Plan → Bool
@@ -36,7 +26,7 @@ launch-byte plan p =
     cond (in-monitor plan p) 0x0A
     (cond (eqb p (plan .vmsa)) 0x0D
     (cond (eqb p (plan .calling)) 0x79
-    (cond (ltb p (plan .valid-below)) 0x78 0x00)))
+    (cond (ltb p (plan .valid)) 0x78 0x00)))
 
 -- "Record 0 is live, not running, holds nothing, and takes VMPL and features from the VMSA"
 unfoldable pub launch-record : Plan → List ℕ → List ℕ
@@ -46,10 +36,10 @@ launch-record plan page =
       vmpl = vmsa-vmpl page;
       running = 0;
       holding = 0;
-      apic-id = plan .apic-id;
+      apic = plan .apic;
       vmsa = plan .vmsa;
       calling = plan .calling;
-      pool-page = 0;
+      pool = 0;
       spare = 0;
       features = vmsa-features page;
     })
@@ -68,7 +58,7 @@ made plan m =
 -- "Lowest number wins; unless 0, nothing changes." Answer 1, a size wrong, is given by Flat
 unfoldable pub launch : Plan → Machine → Answered Launched Machine
 launch plan m =
-    refuse m (out-of-range plan (m .lent)) OutOfRange
+    refuse m (out-of-range plan (N (m .lent))) OutOfRange
     (refuse m (areas-meet plan) AreasMeet
     (refuse m (unfit-vmsa (page-at (m .lent) (plan .vmsa))) UnfitVmsa
     (record { answer = Made; after = made plan (m .lent) })))

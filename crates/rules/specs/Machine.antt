@@ -2,6 +2,7 @@
 -- All is total: what lies outside reads as zeros, and a write there changes nothing.
 use Rattle.rules.specs.Words.{ℕ, _+_, _*_, _/_, _%_, Bool, cond, _&&_, List, [], _∷_, _++_, leb, ltb, eqb, length, getD, set, replicate, sets}
 use Rattle.rules.specs.Words.{page-size, records-without-pool, between, bits, bit, with-bit, without-bit, little, number}
+use Rattle.rules.specs.Answers.{Vcpu}
 
 infixl 10 _▷_
 -- what the calls are lent to change
@@ -123,18 +124,6 @@ usable vmpl m p = below m p && valid (table-byte m p)
 
 -- "+0 live (0/1), +1 VMPL, +2 running (0/1), +3 holds a pool page (0/1), +4 APIC ID (4), +8 VMSA page (4), +12 calling-area page (4),
 -- +16 pool page (4; 0 if none held), +20 zeros (4), +24 SEV features (8; ..)": read from a record, and laid out as one
-pub record Vcpu : Type 0 where
-  pub live : ℕ
-  pub vmpl : ℕ
-  pub running : ℕ
-  pub holding : ℕ
-  pub apic-id : ℕ
-  pub vmsa : ℕ
-  pub calling : ℕ
-  pub pool-page : ℕ
-  pub spare : ℕ
-  pub features : ℕ
-
 unfoldable pub fields : List ℕ → Vcpu
 fields r =
     record {
@@ -142,18 +131,18 @@ fields r =
       vmpl = getD r 1 0;
       running = getD r 2 0;
       holding = getD r 3 0;
-      apic-id = number 4 r 4;
+      apic = number 4 r 4;
       vmsa = number 4 r 8;
       calling = number 4 r 12;
-      pool-page = number 4 r 16;
+      pool = number 4 r 16;
       spare = number 4 r 20;
       features = number 8 r 24;
     }
 
 unfoldable pub laid-out : Vcpu → List ℕ
 laid-out v =
-    (v .live ∷ v .vmpl ∷ v .running ∷ v .holding ∷ []) ++ little 4 (v .apic-id) ++ little 4 (v .vmsa)
-    ++ little 4 (v .calling) ++ little 4 (v .pool-page) ++ little 4 (v .spare) ++ little 8 (v .features)
+    (v .live ∷ v .vmpl ∷ v .running ∷ v .holding ∷ []) ++ little 4 (v .apic) ++ little 4 (v .vmsa)
+    ++ little 4 (v .calling) ++ little 4 (v .pool) ++ little 4 (v .spare) ++ little 8 (v .features)
 
 unfoldable pub is-live : List ℕ → Bool
 is-live r = eqb (fields r .live) 1

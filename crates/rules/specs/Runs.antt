@@ -1,6 +1,6 @@
 -- Steps and runs on a machine of right size, and the pages that a step takes in and gives back.
 use Rattle.rules.specs.Words.{ℕ, _+_, _-_, Bool, cond, not, _&&_, _||_, List, [], _∷_, eqb, multiple, range, count}
-use Rattle.rules.specs.Answers.{Outcome, Registers, outcome-number, Answered}
+use Rattle.rules.specs.Answers.{Registers, Outcome, outcome-number, Answered}
 use Rattle.rules.specs.Machine.{Lent, Machine, with-lent, owner, pool-free, pool-in-use, vcpu}
 use Rattle.rules.specs.Steps.{store, mark}
 use Rattle.rules.specs.Lists.{bad-list-page, in-list, list-next, list-entry, bad-count, bad-next, entry-pages}

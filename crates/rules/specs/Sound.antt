@@ -1,15 +1,16 @@
 -- "A sound machine", as the faults that a program could look for: sound is right sizes, and no page and no record at fault.
 use Rattle.rules.specs.Words.{ℕ, Bool, false, cond, not, _&&_, _||_, List, [], _∷_, _++_, leb, ltb, eqb, length, page-size, least-pages}
 use Rattle.rules.specs.Words.{most-pages, records, record-size, between, bits, range, every, count}
+use Rattle.rules.specs.Answers.{Vcpu}
 use Rattle.rules.specs.Machine.{Lent, N, owner, plain, calling-area, monitor, pool-free, pool-in-use, vmsa-area, valid, permitted, table-byte}
-use Rattle.rules.specs.Machine.{Vcpu, fields, is-live, holds, needs-page, record-at, vcpu, startup}
+use Rattle.rules.specs.Machine.{fields, is-live, holds, needs-page, record-at, vcpu, startup}
 
 -- what outcome 3 names in a record: "a live, running or holding byte above 1; a live record with VMPL outside 1 to 3 or a page (the pool
 -- page if held) at or above N"
 unfoldable pub bad-names : ℕ → List ℕ → Bool
 bad-names n r =
     let v : Vcpu = fields r in
-    not (between 1 3 (v .vmpl)) || leb n (v .vmsa) || leb n (v .calling) || holds r && leb n (v .pool-page)
+    not (between 1 3 (v .vmpl)) || leb n (v .vmsa) || leb n (v .calling) || holds r && leb n (v .pool)
 
 unfoldable pub bad-record : ℕ → List ℕ → Bool
 bad-record n r = ltb 1 (fields r .live) || ltb 1 (fields r .running) || ltb 1 (fields r .holding) || is-live r && bad-names n r
@@ -19,7 +20,7 @@ unfoldable pub claim : List ℕ → ℕ → List ℕ
 claim r p =
     let v : Vcpu = fields r in
     let say : Bool → ℕ → List ℕ = λ says o. cond (is-live r && says) (o ∷ []) [] in
-    say (eqb (v .vmsa) p) vmsa-area ++ say (eqb (v .calling) p) calling-area ++ say (holds r && eqb (v .pool-page) p) pool-in-use
+    say (eqb (v .vmsa) p) vmsa-area ++ say (eqb (v .calling) p) calling-area ++ say (holds r && eqb (v .pool) p) pool-in-use
 
 unfoldable pub claims : List (List ℕ) → ℕ → List ℕ
 claims [] p = []
@@ -49,10 +50,10 @@ unfoldable pub live-fault : Lent → ℕ → Bool
 live-fault m i =
     let v : Vcpu = vcpu m i in
     not (eqb (v .holding) (cond (needs-page i) 1 0))
-    || eqb (v .holding) 0 && not (eqb (v .pool-page) 0)
+    || eqb (v .holding) 0 && not (eqb (v .pool) 0)
     || not (eqb (v .spare) 0)
     || not (eqb i 0) && not (eqb (v .features) 0)
-    || not (eqb (count (λ r. is-live r && eqb (fields r .apic-id) (v .apic-id)) (m .sheet)) 1)
+    || not (eqb (count (λ r. is-live r && eqb (fields r .apic) (v .apic)) (m .sheet)) 1)
     || ltb (v .vmpl) (startup m .vmpl)
 
 -- "The sheet holds nothing that outcome 3 names and keeps the layout above. Record 0 is live"; "other records are zeros"

@@ -12,6 +12,30 @@ pub struct Registers {
     pub reason: u64,
 }
 
+// A record of the vCPU sheet: its fields in their order.
+pub struct Vcpu {
+    pub live: u8,
+    pub vmpl: u8,
+    pub running: u8,
+    pub holding: u8,
+    pub apic: u32,
+    pub vmsa: u32,
+    pub calling: u32,
+    pub pool: u32,
+    pub spare: u32,
+    pub features: u64,
+}
+
+// What launch is given besides N: the monitor's first page and count, startup VMSA page, calling page, APIC ID, and V.
+pub struct Plan {
+    pub first: usize,
+    pub count: usize,
+    pub vmsa: usize,
+    pub calling: usize,
+    pub apic: u32,
+    pub valid: usize,
+}
+
 // What a call comes back with.
 pub enum Outcome {
     Handled,

@@ -4,7 +4,8 @@ use mathlib.Core.Path.{_≡_}
 use mathlib.Core.List.{List, []}
 use lib.ListN.{length, getD}
 use Rattle.rules.specs.Words.{records, record-size}
-use Rattle.rules.specs.Machine.{Vcpu, fields}
+use Rattle.rules.specs.declared.Vcpu.{Vcpu}
+use Rattle.rules.specs.Machine.{fields}
 use Rattle.rules.specs.Flat.{parts}
 
 abbrev pub row : List ℕ → ℕ → List ℕ
