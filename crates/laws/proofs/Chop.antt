@@ -79,7 +79,7 @@ module _ {A : Type 0} where
       ∙ rw (chop-store n size l p o v h (omega arith), getD-set-same c p (set (getD c p []) o v) [] i, set-set))
 
   -- a run of stores over all of a list leaves what was stored
-  sets-whole : (l vs : List A) → length vs ≡ length l → sets l 0 vs ≡ vs
+  pub sets-whole : (l vs : List A) → length vs ≡ length l → sets l 0 vs ≡ vs
   sets-whole l vs h = sets-eq vs l 0 (omega arith) ∙ rw (drop-of-length-le l {i = 0 + length vs} (omega arith), append-nil vs)
 
   -- as many other elements in the place of part p are the new part p

@@ -4,6 +4,7 @@ pub mod Parts
 pub mod Numbers
 pub mod Widths
 pub mod Records
+pub mod Writes
 pub mod Ranges
 pub mod Counts
 pub mod TableByte

@@ -1,15 +1,16 @@
 -- Laws of the parts of a buffer: what is read and written in a part is read and written in the buffer.
 use mathlib.Core.Path.{_≡_, refl, sym, _∙_, ap}
-use mathlib.Core.List.{List, [], _∷_, append-nil, append-assoc}
-use Prim.Native.Nat.{ℕ, _+_, _-_, _*_, _/_, _<_, _≤_}
+use mathlib.Core.List.{List, [], _∷_, _++_, append-nil, append-assoc}
+use Prim.Native.Nat.{ℕ, zero, suc, _+_, _-_, _*_, _/_, _<_, _≤_}
 use native.Mathlib.Omega.{arith}
-use native.Mathlib.Nat.{mul-div-cancel-left, zero-add, le-div-iff-mul-le, mul-comm}
-use lib.ListN.{length, getD, set, drop, length-append, length-drop, drop-of-length-le}
-use lib.Seq.{sets, length-sets, length-take-le, take-all, drop-drop, sets-eq}
+use native.Mathlib.Nat.{mul-div-cancel-left, zero-add, le-div-iff-mul-le, mul-comm, mul-suc, add-comm}
+use lib.ListN.{length, getD, set, drop, length-append, length-drop, drop-of-length-le, replicate, replicate-append-replicate}
+use lib.Seq.{sets, length-sets, length-take-le, take-all, drop-drop, sets-eq, take-at, drop-at}
 use borrow.Rule.Slice.PartMut.{midOf, putMid}
 use Rattle.rules.specs.Words.{number}
-use Rattle.rules.specs.Machine.{written}
+use Rattle.rules.specs.Machine.{written, zeros}
 use Rattle.rules.specs.Flat.{chop, parts, join}
+use Rattle.laws.proofs.Numbers.{length-zeros}
 use Rattle.laws.proofs.Chop.{join-chop, length-chop, length-part, chop-read, chop-stores, chop-put, chop-number}
 
 module _ {A : Type 0} where
@@ -48,6 +49,11 @@ parts-written size l p o vs h b = rw length-sets (chop-stores (length l / size) 
 pub part-within : (size : ℕ) (l : List ℕ) (p : ℕ) → 0 < size → p < length (parts size l) → size * p + size ≤ length l
 part-within size l p pos h = omega (arith, le-div-iff-mul-le pos .0 (rw length-parts at h), mul-comm size p)
 
+-- a part has its size
+pub length-row : (size : ℕ) (l : List ℕ) (p : ℕ) → 0 < size → p < length (parts size l) → length (getD (parts size l) p []) ≡ size
+unfolding parts
+length-row size l p pos h = length-part (length l / size) size l p (rw length-parts at h) (part-within size l p pos h)
+
 -- a whole part put in its place
 pub parts-put : (size : ℕ) (l : List ℕ) (p : ℕ) (new : List ℕ) → 0 < size → p < length (parts size l) → length new ≡ size
     → parts size (putMid (size * p) size l new) ≡ set (parts size l) p new
@@ -66,3 +72,20 @@ sets-tail a l vs h =
     let none : drop (length l - a) (drop a l) ≡ [] = drop-of-length-le (drop a l) {i = length l - a} (omega (arith, length-drop a l)) in
     rw (tail, none, append-nil (sets (drop a l) 0 vs), sets-eq vs (drop a l) 0 (omega (arith, length-drop a l)), sets-eq vs l a h)
     (simp (zero-add, drop-drop, append-assoc))
+
+-- the parts of zeros are zeros
+pub chop-zeros : (n size : ℕ) → chop n size (zeros (size * n)) ≡ replicate n (zeros size)
+unfolding chop zeros
+chop-zeros zero size = refl
+chop-zeros (suc n) size =
+    let split : zeros (size * suc n) ≡ zeros size ++ zeros (size * n) =
+    ap zeros (mul-suc size n ∙ add-comm (size * n) size) ∙ sym (replicate-append-replicate size (size * n) 0) in
+    rw (
+      split,
+      take-at (zeros size) (zeros (size * n)) size (length-zeros size),
+      drop-at (zeros size) (zeros (size * n)) size (length-zeros size),
+      chop-zeros n size,
+    )
+
+pub parts-zeros : (n size : ℕ) → 0 < size → parts size (zeros (size * n)) ≡ replicate n (zeros size)
+parts-zeros n size pos = parts-chop n size (zeros (size * n)) pos (length-zeros (size * n)) ∙ chop-zeros n size

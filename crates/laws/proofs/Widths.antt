@@ -3,6 +3,7 @@ use mathlib.Core.Path.{_≡_, refl, sym, _∙_, ap}
 use mathlib.Core.List.{List, [], _∷_, _++_}
 use Prim.Native.Nat.{ℕ, zero, suc, _+_, _*_, _/_, _%_, _^_, _<_}
 use native.Mathlib.Nat.{zero-add, suc-add, add-suc, add-zero, mul-add, mul-assoc, add-assoc, pow-succ', pow-zero, one-mul, div-div-eq-div-mul, div-one, pow-suc, mod-lt, one-le-pow}
+use native.Mathlib.Nat.{add-mul-div-left, add-mul-mod-self-left, div-eq-of-lt, mod-eq-of-lt}
 use lib.ListN.{length, getD, set, take}
 use native.Mathlib.Omega.{arith}
 use lib.Seq.{sets, take-suc, length-take-le}
@@ -49,3 +50,11 @@ pub sets-halves : (w : ℕ) (l : List ℕ) (at n : ℕ)
     → sets (sets l at (little w (n % 256 ^ w))) (at + w) (little w (n / 256 ^ w)) ≡ sets l at (little (w + w) n)
 sets-halves w l at n =
     rw (little-mod, little-add w w n, sets-append l at (little w n)) (simp length-little)
+
+-- the bytes of a number made of two halves
+pub little-pair : (w low high : ℕ) → low < 256 ^ w → little (w + w) (low + 256 ^ w * high) ≡ little w low ++ little w high
+little-pair w low high h =
+    let pos : 0 < 256 ^ w = one-le-pow w 256 (lit< tt) in
+    let rest : (low + 256 ^ w * high) / 256 ^ w ≡ high = add-mul-div-left low high pos ∙ rw (div-eq-of-lt h) (zero-add high) in
+    let front : (low + 256 ^ w * high) % 256 ^ w ≡ low = add-mul-mod-self-left low (256 ^ w) high ∙ mod-eq-of-lt h in
+    rw (little-add w w (low + 256 ^ w * high), rest, ← little-mod w (low + 256 ^ w * high), front)

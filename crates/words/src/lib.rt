@@ -1,6 +1,7 @@
 // Little-endian numbers in a slice: 2, 4 and 8 bytes, read and written. A wider number is two of half its width, so that the proofs of each
 // width cite one law. Nothing is assumed.
 ghost use mathlib.Core.Path.{_≡_};
+ghost use mathlib.Core.List.{[], _∷_, _++_};
 ghost use Prim.Native.Nat.{_+_, _<_, _≤_};
 ghost use lib.ListN.{length};
 ghost use lib.Seq.{sets};
@@ -55,4 +56,18 @@ pub fn write8(s: &mut [u8], at: usize, x: u64)
 {
     write4(s, at, (x % 4294967296) as u32);
     write4(s, at + 4, (x / 4294967296) as u32);
+}
+
+// The number of four bytes.
+pub fn join4(a: u8, b: u8, c: u8, d: u8) -> u32
+    ensures { λ r. ⌜ little 4 r ≡ a ∷ b ∷ c ∷ d ∷ [] ⌝ }
+{
+    (a as u32) + 256 * (b as u32) + 65536 * (c as u32) + 16777216 * (d as u32)
+}
+
+// The number of two halves.
+pub fn join8(low: u32, high: u32) -> u64
+    ensures { λ r. ⌜ little 8 r ≡ little 4 low ++ little 4 high ⌝ }
+{
+    (low as u64) + 4294967296 * (high as u64)
 }
