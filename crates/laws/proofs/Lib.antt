@@ -9,3 +9,4 @@ pub mod Ranges
 pub mod Counts
 pub mod TableByte
 pub mod FlatSteps
+pub mod FlatLaunch

@@ -2,14 +2,15 @@
 -- list's length.
 use mathlib.Core.Path.{_≡_, refl, sym, _∙_, ap}
 use mathlib.Core.Bool.{Bool, true, false, _&&_, _||_, and-eq-true-iff}
-use mathlib.Core.List.{List, [], _∷_, _++_}
+use mathlib.Core.List.{List, [], _∷_, _++_, map, map-append}
 use Prim.Native.Nat.{ℕ, zero, suc, _+_, _-_, _<_, _≤_}
 use native.Mathlib.Omega.{arith}
 use native.Mathlib.Numerals.{add-one}
 use native.Mathlib.Nat.{zero-add, suc-add, add-zero, add-suc}
 use borrow.Author.Tests.{lt-ltb, le-ltb, ltb-true, ltb-false, eq-eqb, ne-eqb}
 use lib.Dec.{ltb, eqb, leb·suc-suc}
-use lib.ListN.{length, getD, take, drop, take-append-drop}
+use lib.ListN.{length, getD, take, drop, set, take-append-drop, length-map}
+use lib.Seq.{drop-cons, set-at, append-snoc}
 use Rattle.rules.specs.Words.{range, every, exists, count, lowest, places, each}
 
 -- a test passes or fails, and the proof of each case may use which: `by-test (test x) (λ t. rw t ..) (λ t. rw t ..)`
@@ -277,3 +278,11 @@ module _ {A : Type 0} where
   unfolding each
   each-same part effect e [] a = refl
   each-same part effect e (n ∷ ns) a = each-same part effect e ns (effect n a) ∙ e n a
+
+-- a list filled from the front with f of each place, one store more
+pub filled-more : (f : ℕ → ℕ) (d : List ℕ) (p : ℕ) → p < length d
+    → set (map f (range 0 p) ++ drop p d) p (f p) ≡ map f (range 0 (suc p)) ++ drop (suc p) d
+filled-more f d p h =
+    let len : length (map f (range 0 p)) ≡ p = length-map (range 0 p) f ∙ length-range 0 p in
+    rw (drop-cons d p 0 h, range-snoc 0 p, zero-add, map-append, set-at (map f (range 0 p)) (getD d p 0) (drop (suc p) d) (f p) p len)
+    (sym (append-snoc (map f (range 0 p)) (f p) (drop (suc p) d)))

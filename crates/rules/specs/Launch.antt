@@ -28,6 +28,9 @@ launch-byte plan p =
     (cond (eqb p (plan .calling)) 0x79
     (cond (ltb p (plan .valid)) 0x78 0x00)))
 
+unfoldable pub launch-table : Plan → ℕ → List ℕ
+launch-table plan n = map (launch-byte plan) (range 0 n)
+
 -- "Record 0 is live, not running, holds nothing, and takes VMPL and features from the VMSA"
 unfoldable pub launch-record : Plan → List ℕ → List ℕ
 launch-record plan page =
@@ -44,16 +47,15 @@ launch-record plan page =
       features = vmsa-features page;
     })
 
--- "the other records are zeros; bytes 0 and 1 of the calling page become 0"
+-- "the other records are zeros"
+unfoldable pub launch-sheet : Plan → List ℕ → List (List ℕ)
+launch-sheet plan page = launch-record plan page ∷ replicate (records - 1) (zeros record-size)
+
+-- "bytes 0 and 1 of the calling page become 0"
 unfoldable pub made : Plan → Lent → Machine
 made plan m =
-    let new : Lent =
-    record {
-      memory = m .memory;
-      table = map (launch-byte plan) (range 0 (N m));
-      sheet = launch-record plan (page-at m (plan .vmsa)) ∷ replicate (records - 1) (zeros record-size);
-    } in
-    record { lent = write (plan .calling) 0 (0 ∷ 0 ∷ []) new }
+    let sheet : List (List ℕ) = launch-sheet plan (page-at m (plan .vmsa)) in
+    record { lent = write (plan .calling) 0 (0 ∷ 0 ∷ []) (record { memory = m .memory; table = launch-table plan (N m); sheet = sheet }) }
 
 -- "Lowest number wins; unless 0, nothing changes." Answer 1, a size wrong, is given by Flat
 unfoldable pub launch : Plan → Machine → Answered Launched Machine

@@ -1,0 +1,30 @@
+-- `monitor::launch::areas_meet` meets its contract.
+-- Assumes nothing.
+use mathlib.Core.Path.{sym}
+use borrow.Author.Tests.{lt-leb, le-leb, lt-ltb, le-ltb, eq-eqb, ne-eqb, ltb-true, ltb-false}
+use Rattle.rules.specs.Launch.{areas-meet}
+use borrow.Author.Needs.{needs}
+use Rattle.monitor.proofs.launch.areas_meet.Statement.{statement}
+use Rattle.monitor.proofs.launch.areas_meet.Tie as tie
+
+returns : tie.Need-returns
+unfolding areas-meet
+returns c = rw (eq-eqb _ _ (c .if1 .taken))
+
+in-monitor-requires : tie.Need-in-monitor-requires
+in-monitor-requires c κs = search needs
+
+returns-2 : tie.Need-returns-2
+unfolding areas-meet
+returns-2 c = rw (ne-eqb _ _ (c .before .before .if1 .left), ← c .before .in-monitor .ensures, c .if2 .taken)
+
+in-monitor-requires-2 : tie.Need-in-monitor-requires-2
+in-monitor-requires-2 c κs = search needs
+
+returns-3 : tie.Need-returns-3
+unfolding areas-meet
+returns-3 c = rw (ne-eqb _ _ (c .before .before .before .if1 .left), ← c .before .before .in-monitor .ensures, c .before .if2 .left) (c .in-monitor2 .ensures)
+
+pub areas-meet-spec : {M : Type 1} → statement M
+areas-meet-spec =
+    tie.close (tie.spec returns in-monitor-requires returns-2 in-monitor-requires-2 returns-3)
