@@ -66,3 +66,7 @@ pub record Answered (A B : Type 0) : Type 0 where
 -- "checks in order": if the test holds, this answer and everything as it is; else the rest
 unfoldable pub refuse : {A B : Type 0} → B → Bool → A → Answered A B → Answered A B
 refuse now test answer rest = cond test (record { answer = answer; after = now }) rest
+
+-- the same, with the paper's number for the answer
+unfoldable pub numbered : {A B : Type 0} → (A → ℕ) → Answered A B → Answered ℕ B
+numbered number a = record { answer = number (a .answer); after = a .after }

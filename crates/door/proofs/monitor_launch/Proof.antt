@@ -1,0 +1,30 @@
+-- `door::monitor_launch` meets its contract: the monitor's answer, as the paper's number.
+-- Assumes nothing.
+use Rattle.rules.specs.Answers.{numbered}
+use borrow.Author.Needs.{needs}
+use Rattle.door.proofs.monitor_launch.Statement.{statement}
+use Rattle.door.proofs.monitor_launch.Tie as tie
+
+launch-requires : tie.Need-launch-requires
+launch-requires c κs = search needs
+
+launched-requires : tie.Need-launched-requires
+launched-requires c κs = search needs
+
+same-length : tie.Need-same-length
+same-length c = search needs
+
+same-length-2 : tie.Need-same-length-2
+same-length-2 c = search needs
+
+same-length-3 : tie.Need-same-length-3
+same-length-3 c = search needs
+
+returns : tie.Need-returns
+unfolding numbered
+returns c = rw (c .before .before .before .before .before .before .before .launch .ensures, ← c .launched .ensures)
+
+pub monitor-launch-spec : {M : Type 1} → statement M
+monitor-launch-spec =
+    tie.close
+    (tie.spec launch-requires launched-requires same-length same-length-2 same-length-3 returns)

@@ -1,0 +1,22 @@
+-- `door::monitor_mark` meets its contract: the monitor's answer, as the paper's number.
+-- Assumes nothing.
+use Rattle.rules.specs.Answers.{numbered}
+use borrow.Author.Needs.{needs}
+use Rattle.door.proofs.monitor_mark.Statement.{statement}
+use Rattle.door.proofs.monitor_mark.Tie as tie
+
+mark-requires : tie.Need-mark-requires
+mark-requires c κs = search needs
+
+verdict-requires : tie.Need-verdict-requires
+verdict-requires c κs = search needs
+
+same-length : tie.Need-same-length
+same-length c = search needs
+
+returns : tie.Need-returns
+unfolding numbered
+returns c = rw (c .before .before .before .mark .ensures, ← c .verdict .ensures)
+
+pub monitor-mark-spec : {M : Type 1} → statement M
+monitor-mark-spec = tie.close (tie.spec mark-requires verdict-requires same-length returns)

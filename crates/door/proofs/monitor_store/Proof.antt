@@ -1,0 +1,22 @@
+-- `door::monitor_store` meets its contract: the monitor's answer, as the paper's number.
+-- Assumes nothing.
+use Rattle.rules.specs.Answers.{numbered}
+use borrow.Author.Needs.{needs}
+use Rattle.door.proofs.monitor_store.Statement.{statement}
+use Rattle.door.proofs.monitor_store.Tie as tie
+
+store-requires : tie.Need-store-requires
+store-requires c κs = search needs
+
+verdict-requires : tie.Need-verdict-requires
+verdict-requires c κs = search needs
+
+same-length : tie.Need-same-length
+same-length c = search needs
+
+returns : tie.Need-returns
+unfolding numbered
+returns c = rw (c .before .before .before .store .ensures, ← c .verdict .ensures)
+
+pub monitor-store-spec : {M : Type 1} → statement M
+monitor-store-spec = tie.close (tie.spec store-requires verdict-requires same-length returns)
