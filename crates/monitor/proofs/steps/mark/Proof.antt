@@ -26,7 +26,7 @@ returns-3 c = mark-refused _ _ _ (eq-eqb _ _ (c .before .before .if1 .left)) (rw
 
 byte-requires : tie.Need-byte-requires
 unfolding records record-size
-byte-requires c κs = at (record { sized = c .before .before .before .if1 .left; below = c .before .before .if2 .left }) 0 1 (lit≤ tt)
+byte-requires c κs = at (record { sized = c .before .before .before .if1 .left; below = c .before .before .if2 .left }) _ _ (lit≤ tt)
 
 same-length : tie.Need-same-length
 same-length c = search needs
@@ -39,7 +39,7 @@ returns-4 c =
 
 put-byte-requires : tie.Need-put-byte-requires
 unfolding records record-size
-put-byte-requires c κs = at (record { sized = c .before .before .before .before .before .before .if1 .left; below = c .before .before .before .before .before .if2 .left }) 2 1 (lit≤ tt)
+put-byte-requires c κs = at (record { sized = c .before .before .before .before .before .before .if1 .left; below = c .before .before .before .before .before .if2 .left }) _ _ (lit≤ tt)
 
 same-length-2 : tie.Need-same-length-2
 same-length-2 c = search needs

@@ -25,25 +25,25 @@ join8-requires c κs = search needs
 
 put-number8-requires : tie.Need-put-number8-requires
 unfolding records record-size
-put-number8-requires c κs = at (record { sized = c .before .before .before .before .pre .sized; below = c .before .before .before .before .pre .below }) 0 8 (lit≤ tt)
+put-number8-requires c κs = at (record { sized = c .before .before .before .before .pre .sized; below = c .before .before .before .before .pre .below }) _ _ (lit≤ tt)
 
 join8-requires-2 : tie.Need-join8-requires-2
 join8-requires-2 c κs = search needs
 
 put-number8-requires-2 : tie.Need-put-number8-requires-2
 unfolding records record-size
-put-number8-requires-2 c κs = at (record { sized = c .before .before .before .before .put-number8 .kept .0 ∙ c .before .before .before .before .before .before .before .before .before .pre .sized; below = c .before .before .before .before .before .before .before .before .before .pre .below }) 8 8 (lit≤ tt)
+put-number8-requires-2 c κs = at (record { sized = c .before .before .before .before .put-number8 .kept .0 ∙ c .before .before .before .before .before .before .before .before .before .pre .sized; below = c .before .before .before .before .before .before .before .before .before .pre .below }) _ _ (lit≤ tt)
 
 join8-requires-3 : tie.Need-join8-requires-3
 join8-requires-3 c κs = search needs
 
 put-number8-requires-3 : tie.Need-put-number8-requires-3
 unfolding records record-size
-put-number8-requires-3 c κs = at (record { sized = c .before .before .before .before .put-number82 .kept .0 ∙ c .before .before .before .before .before .before .before .before .before .put-number8 .kept .0 ∙ c .before .before .before .before .before .before .before .before .before .before .before .before .before .before .pre .sized; below = c .before .before .before .before .before .before .before .before .before .before .before .before .before .before .pre .below }) 16 8 (lit≤ tt)
+put-number8-requires-3 c κs = at (record { sized = c .before .before .before .before .put-number82 .kept .0 ∙ c .before .before .before .before .before .before .before .before .before .put-number8 .kept .0 ∙ c .before .before .before .before .before .before .before .before .before .before .before .before .before .before .pre .sized; below = c .before .before .before .before .before .before .before .before .before .before .before .before .before .before .pre .below }) _ _ (lit≤ tt)
 
 put-number8-requires-4 : tie.Need-put-number8-requires-4
 unfolding records record-size
-put-number8-requires-4 c κs = at (record { sized = c .before .before .before .put-number83 .kept .0 ∙ c .before .before .before .before .before .before .before .before .put-number82 .kept .0 ∙ c .before .before .before .before .before .before .before .before .before .before .before .before .before .put-number8 .kept .0 ∙ c .before .before .before .before .before .before .before .before .before .before .before .before .before .before .before .before .before .before .pre .sized; below = c .before .before .before .before .before .before .before .before .before .before .before .before .before .before .before .before .before .before .pre .below }) 24 8 (lit≤ tt)
+put-number8-requires-4 c κs = at (record { sized = c .before .before .before .put-number83 .kept .0 ∙ c .before .before .before .before .before .before .before .before .put-number82 .kept .0 ∙ c .before .before .before .before .before .before .before .before .before .before .before .before .before .put-number8 .kept .0 ∙ c .before .before .before .before .before .before .before .before .before .before .before .before .before .before .before .before .before .before .pre .sized; below = c .before .before .before .before .before .before .before .before .before .before .before .before .before .before .before .before .before .before .pre .below }) _ _ (lit≤ tt)
 
 same-length : tie.Need-same-length
 same-length c = search needs

@@ -13,7 +13,7 @@ use Rattle.parts.proofs.byte.Reads as byte-reads
 use Rattle.parts.proofs.number4.Reads as number4-reads
 
 byte-requires : tie.Need-byte-requires
-byte-requires c κs = at (c .before .pre) 1 1 (lit≤ tt)
+byte-requires c κs = at (c .before .pre) _ _ (lit≤ tt)
 
 returns : tie.Need-returns
 unfolding bad-names between holds fields record-size
@@ -24,7 +24,7 @@ unfolding bad-names between holds fields record-size
 returns-2 c = rw (← c .before .before .byte .ensures, le-leb 1 _ (c .before .if1 .left), lt-leb _ 3 (c .if2 .taken))
 
 number4-requires : tie.Need-number4-requires
-number4-requires c κs = at (c .before .before .before .before .pre) 8 4 (lit≤ tt)
+number4-requires c κs = at (c .before .before .before .before .pre) _ _ (lit≤ tt)
 
 cast-vmsa : tie.Need-cast-vmsa
 cast-vmsa c = search needs
@@ -34,7 +34,7 @@ unfolding bad-names between holds fields record-size
 returns-3 c = rw (← c .before .before .before .before .byte .ensures, ← c .before .number4 .ensures, le-leb 1 _ (c .before .before .before .if1 .left), le-leb _ 3 (c .before .before .if2 .left), le-leb _ _ (c .if3 .taken))
 
 number4-requires-2 : tie.Need-number4-requires-2
-number4-requires-2 c κs = at (c .before .before .before .before .before .before .pre) 12 4 (lit≤ tt)
+number4-requires-2 c κs = at (c .before .before .before .before .before .before .pre) _ _ (lit≤ tt)
 
 cast-calling : tie.Need-cast-calling
 cast-calling c = search needs
@@ -53,7 +53,7 @@ returns-4 c =
     )
 
 byte-requires-2 : tie.Need-byte-requires-2
-byte-requires-2 c κs = at (c .before .before .before .before .before .before .before .before .pre) 3 1 (lit≤ tt)
+byte-requires-2 c κs = at (c .before .before .before .before .before .before .before .before .pre) _ _ (lit≤ tt)
 
 returns-5 : tie.Need-returns-5
 unfolding bad-names between holds fields record-size
@@ -71,7 +71,7 @@ returns-5 c =
     )
 
 number4-requires-3 : tie.Need-number4-requires-3
-number4-requires-3 c κs = at (c .before .before .before .before .before .before .before .before .before .before .pre) 16 4 (lit≤ tt)
+number4-requires-3 c κs = at (c .before .before .before .before .before .before .before .before .before .before .pre) _ _ (lit≤ tt)
 
 cast-pool-page : tie.Need-cast-pool-page
 cast-pool-page c = search needs

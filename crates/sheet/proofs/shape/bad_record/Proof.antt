@@ -12,21 +12,21 @@ use Rattle.sheet.proofs.shape.bad_record.Tie as tie
 use Rattle.parts.proofs.byte.Reads as byte-reads
 
 byte-requires : tie.Need-byte-requires
-byte-requires c κs = at (c .before .pre) 0 1 (lit≤ tt)
+byte-requires c κs = at (c .before .pre) _ _ (lit≤ tt)
 
 returns : tie.Need-returns
 unfolding bad-record is-live fields record-size
 returns c = rw (← c .before .byte .ensures, lt-ltb 1 _ (c .if1 .taken))
 
 byte-requires-2 : tie.Need-byte-requires-2
-byte-requires-2 c κs = at (c .before .before .before .pre) 2 1 (lit≤ tt)
+byte-requires-2 c κs = at (c .before .before .before .pre) _ _ (lit≤ tt)
 
 returns-2 : tie.Need-returns-2
 unfolding bad-record is-live fields record-size
 returns-2 c = rw (← c .before .before .before .byte .ensures, ← c .before .byte2 .ensures, le-ltb 1 _ (c .before .before .if1 .left), lt-ltb 1 _ (c .if2 .taken))
 
 byte-requires-3 : tie.Need-byte-requires-3
-byte-requires-3 c κs = at (c .before .before .before .before .before .pre) 3 1 (lit≤ tt)
+byte-requires-3 c κs = at (c .before .before .before .before .before .pre) _ _ (lit≤ tt)
 
 returns-3 : tie.Need-returns-3
 unfolding bad-record is-live fields record-size

@@ -19,7 +19,7 @@ returns c = rw (le-leb 16 _ (c .if1 .taken))
 
 byte-requires : tie.Need-byte-requires
 unfolding records
-byte-requires c κs = at (record { sized = c .before .before .pre; below = c .if1 .left }) 0 1 (lit≤ tt)
+byte-requires c κs = at (record { sized = c .before .before .pre; below = c .if1 .left }) _ _ (lit≤ tt)
 
 returns-2 : tie.Need-returns-2
 unfolding bad-sheet is-live fields records record-size
@@ -27,7 +27,7 @@ returns-2 c = rw (lt-leb 16 _ (c .before .before .if1 .left), ← c .before .byt
 
 byte-requires-2 : tie.Need-byte-requires-2
 unfolding records
-byte-requires-2 c κs = at (record { sized = c .before .before .before .before .pre; below = lit< tt }) 0 1 (lit≤ tt)
+byte-requires-2 c κs = at (record { sized = c .before .before .before .before .pre; below = lit< tt }) _ _ (lit≤ tt)
 
 returns-3 : tie.Need-returns-3
 unfolding bad-sheet is-live fields records record-size
