@@ -166,9 +166,12 @@ query rcx = cond (eqb rcx 1) 0x0000000100000001 0
 
 -- "7 vTOM. RCX bit 0 set and RCX not 1: PARAMETER; RCX 1: success, RCX 0. Configure: bits 11:5 set, or bit 1 clear with bits 63:12 set:
 -- PARAMETER; else REQUEST": the code, and RCX after it
+unfoldable pub configure : ℕ → Answered Code ℕ
+configure rcx =
+    refuse rcx (not (eqb (bits 11 5 rcx) 0) || not (bit 1 rcx) && not (eqb (bits 63 12 rcx) 0)) Parameter
+    (record { answer = Request; after = rcx })
+
 unfoldable pub vtom : ℕ → Answered Code ℕ
 vtom rcx =
     refuse rcx (bit 0 rcx && not (eqb rcx 1)) Parameter
-    (cond (eqb rcx 1) (record { answer = Success; after = 0 })
-    (refuse rcx (not (eqb (bits 11 5 rcx) 0) || not (bit 1 rcx) && not (eqb (bits 63 12 rcx) 0)) Parameter
-    (record { answer = Request; after = rcx })))
+    (cond (eqb rcx 1) (record { answer = Success; after = 0 }) (configure rcx))
