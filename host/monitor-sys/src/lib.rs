@@ -1,0 +1,41 @@
+//! The exported functions of the monitor's core, as they are linked. The crate `monitor` has them in safe functions, and says what they mean.
+//!
+//! Each buffer is a pointer and a length. The pointer must be fit for that many bytes, also where the length is 0 (not null), and a buffer that can be
+//! written (`*mut`) must not overlap another of the same call. Nothing else is asked: every size, number and byte has its answer.
+
+#![warn(missing_docs)]
+
+extern "C" {
+    /// Launches a machine: 0 made, 1 a size wrong, 2 out of range, 3 areas meet, 4 VMSA unfit.
+    pub fn monitor_launch(
+        memory: *mut u8,
+        memory_length: usize,
+        table: *mut u8,
+        table_length: usize,
+        sheet: *mut u8,
+        sheet_length: usize,
+        n: usize,
+        monitor_first: usize,
+        monitor_count: usize,
+        vmsa_page: usize,
+        calling_page: usize,
+        apic_id: u32,
+        valid_below: usize,
+    ) -> u32;
+
+    /// Stores bytes in a page as a VMPL: 0 done, 1 refused.
+    pub fn monitor_store(
+        memory: *mut u8,
+        memory_length: usize,
+        table: *const u8,
+        table_length: usize,
+        vmpl: u8,
+        page: usize,
+        offset: usize,
+        bytes: *const u8,
+        bytes_length: usize,
+    ) -> u32;
+
+    /// Marks a record as running (1) or stopped (0): 0 done, 1 refused.
+    pub fn monitor_mark(sheet: *mut u8, sheet_length: usize, record: usize, running: u8) -> u32;
+}

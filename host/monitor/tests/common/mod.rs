@@ -1,0 +1,193 @@
+//! The core and the model on the same input.
+
+#![allow(dead_code)] // Each test file takes what it needs.
+
+use monitor::{Launched, Plan, Verdict};
+use trials::Random;
+
+pub const PAGE: usize = 4096;
+
+/// Numbers that a careless test of a range lets through: past 32 bits, or where a sum or a product wraps.
+pub const HUGE: [usize; 8] = [
+    1 << 32,
+    (1 << 32) + 1,
+    1 << 52,
+    (1 << 52) + 1,
+    1 << 59,
+    1 << 63,
+    usize::MAX - 1,
+    usize::MAX,
+];
+
+/// A buffer with guard bytes before and after what is lent. Their number is odd, so that what is lent is not aligned.
+pub struct Guarded {
+    bytes: Vec<u8>,
+    guard: &'static Guard,
+}
+
+type Guard = [u8; 4099];
+
+/// Guards that would be taken if they were read: beside the table, pages that are valid and permitted to all; beside the sheet, records that are live.
+const BESIDE_TABLE: Guard = [0xF8; 4099];
+const BESIDE_OTHERS: Guard = {
+    let mut guard = [0; 4099];
+    let mut index = 0;
+    while index < guard.len() {
+        guard[index] = if index % 32 == 0 {
+            1
+        } else {
+            (index % 251) as u8 + 3
+        };
+        index += 1;
+    }
+    guard
+};
+
+impl Guarded {
+    pub fn new(bytes: &[u8], guard: &'static Guard) -> Guarded {
+        let bytes = [guard, bytes, guard].concat();
+        Guarded { bytes, guard }
+    }
+
+    pub fn lend(&mut self) -> &mut [u8] {
+        let end = self.bytes.len() - self.guard.len();
+        &mut self.bytes[self.guard.len()..end]
+    }
+
+    /// Panics unless it holds just these bytes, and the guards are as they were.
+    #[track_caller]
+    pub fn is(&self, name: &str, expected: &[u8], step: &dyn Fn() -> String) {
+        let (before, rest) = self.bytes.split_at(self.guard.len());
+        let (lent, after) = rest.split_at(rest.len() - self.guard.len());
+        assert!(before == self.guard, "written before {name}, by {}", step());
+        assert!(after == self.guard, "written after {name}, by {}", step());
+        if lent != expected {
+            let at = (0..lent.len()).find(|&at| lent[at] != expected[at]);
+            let at = at.expect("the lengths are the same");
+            let (core, model) = (lent[at], expected[at]);
+            let step = step();
+            panic!("byte {at:#x} of {name} is {core:#x}, not {model:#x}, after {step}");
+        }
+    }
+}
+
+/// A machine twice: what is lent to the core, and what is lent to the model. Each step compares the answer and every byte.
+pub struct Twins {
+    core: [Guarded; 3],
+    pub memory: Vec<u8>,
+    pub table: Vec<u8>,
+    pub sheet: Vec<u8>,
+}
+
+impl Twins {
+    pub fn new(memory: Vec<u8>, table: Vec<u8>, sheet: Vec<u8>) -> Twins {
+        Twins {
+            core: [
+                Guarded::new(&memory, &BESIDE_OTHERS),
+                Guarded::new(&table, &BESIDE_TABLE),
+                Guarded::new(&sheet, &BESIDE_OTHERS),
+            ],
+            memory,
+            table,
+            sheet,
+        }
+    }
+
+    /// Buffers of these lengths with bytes at random.
+    pub fn random(random: &mut Random, lengths: [usize; 3]) -> Twins {
+        let [memory, table, sheet] = lengths.map(|length| {
+            let mut bytes = vec![0; length];
+            random.fill(&mut bytes);
+            bytes
+        });
+        Twins::new(memory, table, sheet)
+    }
+
+    /// Buffers of the right sizes for n pages, with bytes at random.
+    pub fn sized(n: usize) -> Twins {
+        Twins::random(&mut Random::new(n as u64), [PAGE * n, n, 512])
+    }
+
+    pub fn poke(&mut self, buffer: Buffer, at: usize, bytes: &[u8]) {
+        let (core, model) = match buffer {
+            Buffer::Memory => (self.core[0].lend(), &mut self.memory),
+            Buffer::Table => (self.core[1].lend(), &mut self.table),
+            Buffer::Sheet => (self.core[2].lend(), &mut self.sheet),
+        };
+        core[at..at + bytes.len()].copy_from_slice(bytes);
+        model[at..at + bytes.len()].copy_from_slice(bytes);
+    }
+
+    /// Writes VMPL and EFER of a VMSA.
+    pub fn poke_vmsa(&mut self, page: usize, vmpl: u8, efer: u64) {
+        self.poke(Buffer::Memory, PAGE * page + 0xCA, &[vmpl]);
+        self.poke(Buffer::Memory, PAGE * page + 0xD0, &efer.to_le_bytes());
+    }
+
+    #[track_caller]
+    pub fn launch(&mut self, plan: &Plan) -> Launched {
+        let [memory, table, sheet] = &mut self.core;
+        let answer = monitor::launch(memory.lend(), table.lend(), sheet.lend(), plan);
+        let expected = model::launch(
+            &mut self.memory,
+            &mut self.table,
+            &mut self.sheet,
+            plan.pages,
+            plan.monitor_first,
+            plan.monitor_count,
+            plan.vmsa_page,
+            plan.calling_page,
+            plan.apic_id,
+            plan.valid_below,
+        );
+        self.same(answer.number(), expected, &|| format!("{plan:?}"));
+        answer
+    }
+
+    #[track_caller]
+    pub fn store(&mut self, vmpl: u8, page: usize, offset: usize, bytes: &[u8]) -> Verdict {
+        let [memory, table, _] = &mut self.core;
+        let mut lent = Guarded::new(bytes, &BESIDE_OTHERS);
+        let answer = monitor::store(memory.lend(), table.lend(), vmpl, page, offset, lent.lend());
+        let expected = model::store(&mut self.memory, &self.table, vmpl, page, offset, bytes);
+        let step = || {
+            format!(
+                "a store: {vmpl} {page:#x} {offset:#x} {} bytes",
+                bytes.len()
+            )
+        };
+        self.same(answer.number(), expected, &step);
+        lent.is("bytes", bytes, &step);
+        answer
+    }
+
+    #[track_caller]
+    pub fn mark(&mut self, record: usize, running: u8) -> Verdict {
+        let answer = monitor::mark(self.core[2].lend(), record, running);
+        let expected = model::mark(&mut self.sheet, record, running);
+        let step = || format!("a mark: {record:#x} {running}");
+        self.same(answer.number(), expected, &step);
+        answer
+    }
+
+    #[track_caller]
+    fn same(&self, answer: u32, expected: u32, step: &dyn Fn() -> String) {
+        if answer != expected {
+            panic!("the answer is {answer}, not {expected}, to {}", step());
+        }
+        let [memory, table, sheet] = &self.core;
+        memory.is("memory", &self.memory, step);
+        table.is("table", &self.table, step);
+        sheet.is("sheet", &self.sheet, step);
+    }
+}
+
+#[derive(Clone, Copy, Debug)]
+pub enum Buffer {
+    Memory,
+    Table,
+    Sheet,
+}
+
+/// "EFER (0xD0, eight bytes) bit 12".
+pub const SVME: u64 = 1 << 12;
