@@ -1,6 +1,6 @@
 -- Launch on flat bytes: where it is refused nothing changes, and where it is made the buffers are those whose parts are the new machine.
 use mathlib.Core.Path.{_≡_, refl, sym, _∙_, ap}
-use mathlib.Core.Bool.{Bool, true, false, _&&_, _||_, and-eq-true-iff, true≢false}
+use mathlib.Core.Bool.{Bool, true, false, _&&_, _||_, and-eq-true-iff}
 use mathlib.Core.List.{List, [], _∷_}
 use Prim.Native.Nat.{ℕ, _+_, _<_}
 use lib.Dec.{leb, ltb, eqb}
@@ -13,6 +13,7 @@ use Rattle.rules.specs.Machine.{Lent, N, page-at, write, with-memory}
 use Rattle.rules.specs.Launch.{out-of-range, areas-meet, unfit-vmsa, launch-table, launch-sheet, made, launch}
 use Rattle.rules.specs.Flat.{Buffers, parted, joined, memory-fits, memory-sized, sheet-sized, well-sized, launch-bytes}
 use Rattle.laws.proofs.FlatSteps.{join-memory, join-sheet}
+use Rattle.laws.proofs.Tested.{or-false}
 
 -- buffers of right size are the join of their parts
 pub joined-parted : (b : Buffers) → well-sized b ≡ true → joined (parted b) ≡ b
@@ -27,9 +28,6 @@ pub same-sizes : (b a : Buffers) → length (a .memory) ≡ length (b .memory) �
 unfolding well-sized memory-sized sheet-sized
 same-sizes b a m t s = rw (m, t, s)
 
-or-false : (a b : Bool) → (a || b) ≡ false → (a ≡ false) × (b ≡ false)
-or-false true b e = absurd (true≢false e)
-or-false false b e = (refl, e)
 
 -- a plan in range names pages below n
 pub in-range : (plan : Plan) (n : ℕ) → out-of-range plan n ≡ false → (plan .vmsa < n) × (plan .calling < n)

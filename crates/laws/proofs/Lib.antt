@@ -9,4 +9,5 @@ pub mod Ranges
 pub mod Counts
 pub mod TableByte
 pub mod FlatSteps
+pub mod Tested
 pub mod FlatLaunch
