@@ -28,7 +28,6 @@ pub same-sizes : (b a : Buffers) → length (a .memory) ≡ length (b .memory) �
 unfolding well-sized memory-sized sheet-sized
 same-sizes b a m t s = rw (m, t, s)
 
-
 -- a plan in range names pages below n
 pub in-range : (plan : Plan) (n : ℕ) → out-of-range plan n ≡ false → (plan .vmsa < n) × (plan .calling < n)
 unfolding out-of-range

@@ -48,7 +48,8 @@ named n r e =
       most = leb-true (v .vmpl) 3 (range .1);
       vmsa = leb-false n (v .vmsa) (first .1);
       calling = leb-false n (v .calling) (inner .1);
-      pool = λ h. leb-false n (v .pool) (rw h at (outer .1)) }
+      pool = λ h. leb-false n (v .pool) (rw h at (outer .1));
+    }
 
 pub names : (n : ℕ) (r : List ℕ) → bad-record n r ≡ false → is-live r ≡ true → Names n r
 unfolding bad-record

@@ -1,0 +1,19 @@
+-- `remap_call::is_foreign` meets its contract.
+-- Assumes nothing.
+use mathlib.Core.Path.{_≡_}
+use borrow.Author.Tests.{lt-leb, le-leb, lt-ltb, le-ltb, eq-eqb, ne-eqb, not-true, not-false}
+use borrow.Author.Needs.{needs}
+use Rattle.remap_call.proofs.is_foreign.Statement.{statement}
+use Rattle.remap_call.proofs.is_foreign.Tie as tie
+
+owner-of-requires : tie.Need-owner-of-requires
+owner-of-requires c κs = search needs
+
+returns : tie.Need-returns
+returns c = rw (← c .before .owner-of .ensures, eq-eqb _ 0 (c .if1 .taken))
+
+returns-2 : tie.Need-returns-2
+returns-2 c = rw (← c .before .owner-of .ensures, ne-eqb _ 0 (c .if1 .left))
+
+pub is-foreign-spec : {M : Type 1} → statement M
+is-foreign-spec = tie.close (tie.spec owner-of-requires returns returns-2)
