@@ -11,7 +11,7 @@ use lib.ListN.{length, getD, take, set, length-set, List·getD-eq-default}
 use lib.Seq.{getD-set-same, getD-set-other}
 use Rattle.rules.specs.Words.{range, every, exists, count, places, each}
 use Rattle.rules.specs.Machine.{Lent, table-byte, put, change}
-use Rattle.laws.proofs.Ranges.{by-test, length-range, exists-range, each-part, each-same, Rising, none, more, rising-take, rising-range}
+use Rattle.laws.proofs.Ranges.{by-test, length-range, range-snoc, exists-range, each-part, each-same, Rising, none, more, rising-take, rising-range}
 use Rattle.laws.proofs.Ranges.{rising-places, rising→every, rising→absent, rising→outside}
 
 -- what an element adds to a count
@@ -226,3 +226,13 @@ memory-each f = each-same (λ m. m .memory) (change f) (λ p m. refl)
 pub sheet-each : (f : ℕ → ℕ) (ps : List ℕ) (m : Lent) → each (change f) ps m .sheet ≡ m .sheet
 unfolding change put
 sheet-each f = each-same (λ m. m .sheet) (change f) (λ p m. refl)
+
+-- a loop that counts over a range
+pub count-more : (test : ℕ → Bool) (first i : ℕ) → count test (range first (suc i)) ≡ count test (range first i) + one (test (first + i))
+unfolding count
+count-more test first i =
+    rw (range-snoc first i) (count-append test (range first i) ((first + i) ∷ []) ∙ ap (λ (n : ℕ). count test (range first i) + n) (single (test (first + i))))
+  where
+    single : (b : Bool) → cond b 1 0 ≡ one b
+    single true = refl
+    single false = refl

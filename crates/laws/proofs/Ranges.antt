@@ -1,7 +1,7 @@
 -- Laws of ranges, of rising lists of numbers, and of what is looked for in a list: every, exists, lowest, places and each, over the
 -- list's length.
 use mathlib.Core.Path.{_≡_, refl, sym, _∙_, ap}
-use mathlib.Core.Bool.{Bool, true, false, _&&_, _||_, and-eq-true-iff}
+use mathlib.Core.Bool.{Bool, true, false, _&&_, _||_, and-eq-true-iff, true≢false}
 use mathlib.Core.List.{List, [], _∷_, _++_, map, map-append}
 use Prim.Native.Nat.{ℕ, zero, suc, _+_, _-_, _<_, _≤_}
 use native.Mathlib.Omega.{arith}
@@ -286,3 +286,13 @@ filled-more f d p h =
     let len : length (map f (range 0 p)) ≡ p = length-map (range 0 p) f ∙ length-range 0 p in
     rw (drop-cons d p 0 h, range-snoc 0 p, zero-add, map-append, set-at (map f (range 0 p)) (getD d p 0) (drop (suc p) d) (f p) p len)
     (sym (append-snoc (map f (range 0 p)) (f p) (drop (suc p) d)))
+
+-- a loop over a range: one page more that passes, and one that fails
+pub every-more : (test : ℕ → Bool) (first i : ℕ) → every test (range first i) ≡ true → test (first + i) ≡ true
+    → every test (range first (suc i)) ≡ true
+unfolding every
+every-more test first i e t = rw (range-snoc first i, every-append test (range first i) ((first + i) ∷ []), e, t)
+
+pub every-fails : (test : ℕ → Bool) (first n p : ℕ) → first ≤ p → p < first + n → test p ≡ false → every test (range first n) ≡ false
+every-fails test first n p l h t =
+    by-test (every test (range first n)) (λ e. absurd (true≢false (sym (every-range→ test first n e p l h) ∙ t))) (λ e. e)

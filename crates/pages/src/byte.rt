@@ -1,5 +1,6 @@
 // The table byte of a page: its fields, and each change of it.
 ghost use mathlib.Core.Path.{_≡_};
+ghost use mathlib.Core.Bool.{cond};
 ghost use Prim.Native.Nat.{_<_};
 ghost use Rattle.rules.specs.Calls.{is-free};
 ghost use Rattle.rules.specs.Machine.{owner, valid, permitted, grant, revoke, own, make-valid, make-invalid};
@@ -20,6 +21,13 @@ pub fn is_valid(b: u8) -> bool
     ensures { λ r. ⌜ r ≡ valid b ⌝ }
 {
     b / 8 % 2 == 1
+}
+
+// 1 if the page is valid, else 0.
+pub fn valid_bit(b: u8) -> usize
+    ensures { λ r. ⌜ r ≡ cond (valid b) 1 0 ⌝ }
+{
+    (b / 8 % 2) as usize
 }
 
 pub fn is_permitted(vmpl: u8, b: u8) -> bool

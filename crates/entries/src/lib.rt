@@ -1,0 +1,2 @@
+// The entries of a list: what an entry covers and wishes, and what a wish does to the pages. Nothing is assumed.
+pub mod covered;
