@@ -1,12 +1,12 @@
 -- Laws of counting: how many elements of a list pass a test, after one of them changed, and after an effect on each page of a rising list
 -- or a range changed the page's table byte; and what that effect leaves as it was.
 use mathlib.Core.Path.{_≡_, refl, sym, _∙_, ap}
-use mathlib.Core.Bool.{Bool, true, false, cond, _&&_, and-false}
+use mathlib.Core.Bool.{Bool, true, false, cond, not, _&&_, and-false}
 use mathlib.Core.List.{List, [], _∷_, _++_}
 use Prim.Native.Nat.{ℕ, zero, suc, _+_, _<_, _≤_}
 use native.Mathlib.Omega.{arith}
 use borrow.Author.Tests.{ltb-false, lt-ltb, eqb-true, eqb-false, eq-eqb, ne-eqb}
-use lib.Dec.{ltb, eqb, leb·suc-zero, leb·suc-suc, eqb·suc-suc}
+use lib.Dec.{ltb, eqb, leb·suc-zero, leb·suc-suc, eqb·suc-zero, eqb·suc-suc}
 use lib.ListN.{length, getD, take, set, length-set, List·getD-eq-default}
 use lib.Seq.{getD-set-same, getD-set-other}
 use Rattle.rules.specs.Words.{range, every, exists, count, places, each}
@@ -236,3 +236,9 @@ count-more test first i =
     single : (b : Bool) → cond b 1 0 ≡ one b
     single true = refl
     single false = refl
+
+-- none passes where each fails
+pub every-not : {A : Type 0} (test : A → Bool) (xs : List A) → every (λ x. not (test x)) xs ≡ eqb (count test xs) 0
+unfolding every count
+every-not test [] = refl
+every-not test (x ∷ xs) = by-test (test x) (λ t. rw t (sym (eqb·suc-zero (count test xs)))) (λ t. rw t (every-not test xs))

@@ -11,3 +11,4 @@ pub mod TableByte
 pub mod FlatSteps
 pub mod Tested
 pub mod FlatLaunch
+pub mod Withdrawals

@@ -296,3 +296,11 @@ every-more test first i e t = rw (range-snoc first i, every-append test (range f
 pub every-fails : (test : ℕ → Bool) (first n p : ℕ) → first ≤ p → p < first + n → test p ≡ false → every test (range first n) ≡ false
 every-fails test first n p l h t =
     by-test (every test (range first n)) (λ e. absurd (true≢false (sym (every-range→ test first n e p l h) ∙ t))) (λ e. e)
+
+-- tests that agree on a range
+pub every-same : (test test′ : ℕ → Bool) (first n : ℕ) → ((p : ℕ) → first ≤ p → p < first + n → test p ≡ test′ p)
+    → every test (range first n) ≡ every test′ (range first n)
+unfolding every range
+every-same test test′ first zero h = refl
+every-same test test′ first (suc n) h =
+    rw (h first (omega arith) (omega arith), every-same test test′ (suc first) n (λ p l k. h p (omega arith) (omega arith)))

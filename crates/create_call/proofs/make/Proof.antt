@@ -1,0 +1,85 @@
+-- `create_call::make` meets its contract: the table's changes and the new record, each as the definition has it.
+-- Assumes nothing.
+use mathlib.Core.Path.{_≡_, refl, _∙_}
+use native.Mathlib.Omega.{arith}
+use Prim.Native.Nat.{ℕ, _<_, _≤_}
+use mathlib.Core.Bool.{true, cond}
+use mathlib.Core.List.{List}
+use lib.ListN.{length}
+use denote.Ref.{now}
+use Rattle.rules.specs.Words.{most-pages, lowest}
+use Rattle.rules.specs.Machine.{needs-page, page-at}
+use Rattle.rules.specs.Calls.{Asked, is-free, new-record, free-page}
+use Rattle.rules.specs.Flat.{Buffers, parted}
+use Rattle.laws.proofs.Ranges.{by-test}
+use Rattle.create_call.proofs.Made.{table-alone, all-made}
+use borrow.Author.Needs.{needs}
+use Rattle.create_call.proofs.make.Statement.{statement}
+use Rattle.create_call.proofs.make.Tie as tie
+
+pool-small : (i pool : ℕ) (table : List ℕ) → length table ≤ most-pages → (needs-page i ≡ true → lowest is-free table < length table)
+    → pool ≡ cond (needs-page i) (lowest is-free table) 0 → pool < 4294967296
+unfolding most-pages
+pool-small i pool table most h e = by-test (needs-page i) (λ t. rw (e, t) (omega (arith, h t, most))) (λ t. rw (e, t) (omega arith))
+
+pool-page-requires : tie.Need-pool-page-requires
+pool-page-requires c κs = search needs
+
+vmpl-of-requires : tie.Need-vmpl-of-requires
+vmpl-of-requires c κs = search needs
+
+holding-of-requires : tie.Need-holding-of-requires
+holding-of-requires c κs = search needs
+
+cast-t14 : tie.Need-cast-t14
+unfolding most-pages
+cast-t14 c = omega (arith, c .before .before .before .before .before .before .before .pre .vmsa-fits, c .before .before .before .before .before .before .before .pre .most)
+
+cast-t15 : tie.Need-cast-t15
+unfolding most-pages
+cast-t15 c = omega (arith, c .before .before .before .before .before .before .before .pre .calling-fits, c .before .before .before .before .before .before .before .pre .most)
+
+cast-t16 : tie.Need-cast-t16
+cast-t16 c =
+    let small = pool-small (c .before .before .before .before .before .before .before .args .i) (c .before .before .pool-page .result) (now (c .before .before .before .before .before .before .before .args .table)) (c .before .before .before .before .before .before .before .pre .most) (c .before .before .before .before .before .before .before .pre .pool-fits) (c .before .before .pool-page .ensures) in
+    omega arith
+
+mark-pages-requires : tie.Need-mark-pages-requires
+mark-pages-requires c κs =
+    let f = c .before .before .before .before .before .before .before .before .pre in
+    let e = c .before .before .before .pool-page .ensures in
+    record { vmsa-below = f .vmsa-fits; calling-below = f .calling-fits; pool-below = λ t. rw (e, t) (f .pool-fits t); pool-is = e }
+
+put-record-requires : tie.Need-put-record-requires
+put-record-requires c κs = search needs
+
+same-length : tie.Need-same-length
+same-length c = search needs
+
+same-length-2 : tie.Need-same-length-2
+same-length-2 c = search needs
+
+returns : tie.Need-returns
+unfolding parted new-record page-at free-page
+returns c =
+    let a = c .before .before .before .before .before .before .before .before .before .before .before .before .before .before .before .args in
+    let b : Buffers = record { memory = now (a .memory); table = now (a .table); sheet = now (a .sheet) } in
+    let asked : Asked = record { caller-vmpl = 0; vmsa = a .vmsa; calling = a .calling; apic = a .apic } in
+    all-made asked (a .i) (parted b) _ _ _ refl (c .before .before .before .before .before .before .mark-pages .ensures ∙ table-alone asked (a .i) (parted b))
+    (c .before .before .put-record .ensures ∙ rw (c .before .before .before .before .before .before .before .before .before .vmpl-of .ensures, c .before .before .before .before .before .before .before .before .holding-of .ensures, c .before .before .before .before .before .before .before .before .before .before .pool-page .ensures))
+
+pub make-spec : {M : Type 1} → statement M
+make-spec =
+    tie.close
+    (tie.spec
+    pool-page-requires
+    vmpl-of-requires
+    holding-of-requires
+    cast-t14
+    cast-t15
+    cast-t16
+    mark-pages-requires
+    put-record-requires
+    same-length
+    same-length-2
+    returns)

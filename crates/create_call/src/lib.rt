@@ -1,0 +1,243 @@
+// The call Create: its checks in order, and what it makes. Nothing is assumed.
+ghost use mathlib.Core.Path.{_≡_};
+ghost use mathlib.Core.Bool.{true, cond, not, _&&_};
+ghost use mathlib.Core.List.{[]};
+ghost use Prim.Native.Nat.{_*_, _<_};
+ghost use lib.Dec.{eqb};
+ghost use lib.ListN.{length, getD, set};
+ghost use Rattle.rules.specs.Words.{record-size, records, exists, lowest};
+ghost use Rattle.rules.specs.Answers.{Answered};
+ghost use Rattle.rules.specs.Machine.{Lent, own, pool-in-use, fields, is-live, needs-page};
+ghost use Rattle.rules.specs.Calls.{Asked, unfit-pages, unfit-vcpu, is-free, created, create};
+ghost use Rattle.rules.specs.Flat.{Buffers, parts, parted};
+ghost use Rattle.laws.proofs.Tested.{Tested};
+ghost use Rattle.sheet.specs.Row.{Row, row, vcpu-in};
+ghost use Rattle.create_call.specs.Fit.{unfit-page, Asking, Named, Fit};
+use rules::Code;
+use rules::Vcpu;
+
+// A page not below N, not valid or not plain. All bits of its number count.
+fn unfit_page(table: &[u8], page: u64) -> bool
+    ensures { λ r. ⌜ r ≡ unfit-page (now (table .entry)) page ⌝ }
+{
+    if page >= table.len() as u64 {
+        return true;
+    }
+    let b = table[page as usize];
+    let valid = pages::byte::is_valid(b);
+    if !valid {
+        return true;
+    }
+    pages::byte::owner_of(b) != 0
+}
+
+// Either page unfit, or both the same.
+fn unfit_pages(table: &[u8], vmsa: u64, calling: u64) -> bool
+    ensures { λ r. ⌜
+        r ≡ unfit-pages (record { caller-vmpl = 0; vmsa = vmsa; calling = calling; apic = 0 })
+        (record { memory = []; table = now (table .entry); sheet = [] }) ⌝ }
+{
+    if unfit_page(table, vmsa) {
+        return true;
+    }
+    if unfit_page(table, calling) {
+        return true;
+    }
+    vmsa == calling
+}
+
+// Record i is live and has this APIC ID.
+fn has_apic(sheet: &[u8], i: usize, apic: u32) -> bool
+    requires { ⌜ Row (now sheet) i ⌝ }
+    ensures { λ r. ⌜ r ≡ (is-live (row (now (sheet .entry)) i) && eqb (fields (row (now (sheet .entry)) i) .apic) apic) ⌝ }
+{
+    let live = parts::byte(sheet, sheet::RECORD_SIZE, i, sheet::LIVE);
+    if live != 1 {
+        return false;
+    }
+    parts::number4(sheet, sheet::RECORD_SIZE, i, sheet::APIC_ID) == apic
+}
+
+fn apic_in_use(sheet: &[u8], apic: u32) -> bool
+    requires { ⌜ length (now sheet) ≡ record-size * records ⌝ }
+    ensures { λ r. ⌜ r ≡ exists (λ x. is-live x && eqb (fields x .apic) apic) (parts record-size (now (sheet .entry))) ⌝ }
+{
+    let mut i = 0;
+    while i < sheet::RECORDS {
+        if has_apic(sheet, i, apic) {
+            return true;
+        }
+        i += 1;
+    }
+    false
+}
+
+// The lowest record that is not live; 16 if all are.
+fn free_record(sheet: &[u8]) -> usize
+    requires { ⌜ length (now sheet) ≡ record-size * records ⌝ }
+    ensures { λ r. ⌜ r ≡ lowest (λ x. not (is-live x)) (parts record-size (now (sheet .entry))) ⌝ }
+{
+    let mut i = 0;
+    while i < sheet::RECORDS {
+        let live = parts::byte(sheet, sheet::RECORD_SIZE, i, sheet::LIVE);
+        if live != 1 {
+            return i;
+        }
+        i += 1;
+    }
+    i
+}
+
+// VMPL or EFER in the VMSA page unfit, VMPL below the caller's, features unlike record 0's, or the APIC ID of a live record.
+fn unfit_vcpu(memory: &[u8], sheet: &[u8], caller: usize, vmsa: usize, apic: u32) -> bool
+    requires { ⌜ Asking (now memory) (now sheet) caller vmsa ⌝ }
+    ensures { λ r. ⌜
+        r ≡ unfit-vcpu (record { caller-vmpl = vcpu-in (now (sheet .entry)) caller .vmpl; vmsa = vmsa; calling = 0; apic = apic })
+        (parted (record { memory = now (memory .entry); table = []; sheet = now (sheet .entry) })) ⌝ }
+{
+    if pages::vmsa::is_unfit(memory, vmsa) {
+        return true;
+    }
+    let vmpl = pages::vmsa::vmpl_of(memory, vmsa);
+    let caller_vmpl = parts::byte(sheet, sheet::RECORD_SIZE, caller, sheet::VMPL);
+    if vmpl < caller_vmpl {
+        return true;
+    }
+    let features = pages::vmsa::features_of(memory, vmsa);
+    let startup_features = parts::number8(sheet, sheet::RECORD_SIZE, 0, sheet::FEATURES);
+    if features != startup_features {
+        return true;
+    }
+    apic_in_use(sheet, apic)
+}
+
+// Record i needs a pool page, and none is free.
+fn lacks_page(table: &[u8], i: usize) -> bool
+    ensures { λ r. ⌜ r ≡ (needs-page i && not (exists is-free (now (table .entry)))) ⌝ }
+{
+    if i < 4 {
+        return false;
+    }
+    let free = pages::pool::any_free(table);
+    !free
+}
+
+// The pool page of record i; 0 if it needs none.
+fn pool_page(table: &[u8], i: usize) -> usize
+    ensures { λ r. ⌜ r ≡ cond (needs-page i) (lowest is-free (now (table .entry))) 0 ⌝ }
+{
+    if i < 4 {
+        return 0;
+    }
+    pages::pool::lowest_free(table)
+}
+
+fn holding_of(i: usize) -> u8
+    ensures { λ r. ⌜ r ≡ cond (needs-page i) 1 0 ⌝ }
+{
+    if i < 4 { 0 } else { 1 }
+}
+
+// The pool page of record i, if it needs one, is in use.
+fn mark_pool(table: &mut [u8], i: usize, pool: usize)
+    requires { ⌜ (needs-page i ≡ true → pool < length (now table)) ⌝ }
+    ensures { λ _. ⌜
+        now (table .exit)
+        ≡ cond (needs-page i) (set (now (table .entry)) pool (own pool-in-use (getD (now (table .entry)) pool 0))) (now (table .entry)) ⌝ }
+{
+    if i >= 4 {
+        table[pool] = pages::byte::owned(4, table[pool]);
+    }
+}
+
+// The table's changes, in their order: VMSA page, calling page, pool page.
+fn mark_pages(table: &mut [u8], i: usize, vmsa: usize, calling: usize, pool: usize)
+    requires { ⌜ Named (now table) i vmsa calling pool ⌝ }
+    ensures { λ _. ⌜
+        now (table .exit)
+        ≡ created (record { caller-vmpl = 0; vmsa = vmsa; calling = calling; apic = 0 }) i
+        (record { memory = []; table = now (table .entry); sheet = [] }) .table ⌝ }
+{
+    let b = table[vmsa];
+    let revoked = pages::byte::revoked(b);
+    table[vmsa] = pages::byte::owned(5, revoked);
+    table[calling] = pages::byte::owned(1, table[calling]);
+    mark_pool(table, i, pool);
+}
+
+// What Create makes, once its checks are passed: the table's changes and record i.
+fn make(
+    memory: &[u8],
+    table: &mut [u8],
+    sheet: &mut [u8],
+    i: usize,
+    vmsa: usize,
+    calling: usize,
+    apic: u32,
+)
+    requires { ⌜ Fit (record { memory = now memory; table = now table; sheet = now sheet }) i vmsa calling ⌝ }
+    ensures { λ _. ⌜
+        parted (record { memory = now (memory .entry); table = now (table .exit); sheet = now (sheet .exit) })
+        ≡ created (record { caller-vmpl = 0; vmsa = vmsa; calling = calling; apic = apic }) i
+        (parted (record { memory = now (memory .entry); table = now (table .entry); sheet = now (sheet .entry) })) ⌝ }
+{
+    let pool = pool_page(table, i);
+    let v = Vcpu {
+        live: 1,
+        vmpl: pages::vmsa::vmpl_of(memory, vmsa),
+        running: 0,
+        holding: holding_of(i),
+        apic,
+        vmsa: vmsa as u32,
+        calling: calling as u32,
+        pool: pool as u32,
+        spare: 0,
+        features: 0,
+    };
+    mark_pages(table, i, vmsa, calling, pool);
+    sheet::record::put_record(sheet, i, v);
+}
+
+// 2 Create.
+pub fn create(
+    memory: &[u8],
+    table: &mut [u8],
+    sheet: &mut [u8],
+    caller: usize,
+    rcx: u64,
+    rdx: u64,
+    r8: u64,
+) -> Code
+    requires { ⌜ Tested (record { memory = now memory; table = now table; sheet = now sheet }) caller ⌝ }
+    ensures { λ r. ⌜
+        create caller rcx rdx r8 (parted (record { memory = now (memory .entry); table = now (table .entry); sheet = now (sheet .entry) }))
+        ≡ record {
+          answer = r;
+          after = parted (record { memory = now (memory .entry); table = now (table .exit); sheet = now (sheet .exit) });
+        } ⌝ }
+{
+    if rcx % 4096 != 0 {
+        return Code::Parameter;
+    }
+    if rdx % 4096 != 0 {
+        return Code::Parameter;
+    }
+    if unfit_pages(table, rcx / 4096, rdx / 4096) {
+        return Code::Address;
+    }
+    let vmsa = (rcx / 4096) as usize;
+    let calling = (rdx / 4096) as usize;
+    let apic = (r8 % 0x100000000) as u32;
+    if unfit_vcpu(memory, sheet, caller, vmsa, apic) {
+        return Code::Parameter;
+    }
+    let i = free_record(sheet);
+    if i >= sheet::RECORDS {
+        return Code::Request;
+    }
+    if lacks_page(table, i) {
+        return Code::OneMorePage;
+    }
+    make(memory, table, sheet, i, vmsa, calling, apic);
+    Code::Success
+}

@@ -1,0 +1,30 @@
+-- `delete_call::clear_svme` meets its contract.
+-- Assumes nothing.
+use mathlib.Core.Path.{_∙_}
+use lib.Dec.{lit<, lit≤}
+use Rattle.rules.specs.Words.{page-size}
+use borrow.Author.Needs.{needs}
+use Rattle.delete_call.proofs.clear_svme.Statement.{statement}
+use Rattle.delete_call.proofs.clear_svme.Tie as tie
+
+efer-of-requires : tie.Need-efer-of-requires
+efer-of-requires c κs = search needs
+
+without-svme-requires : tie.Need-without-svme-requires
+without-svme-requires c κs = search needs
+
+put-number8-requires : tie.Need-put-number8-requires
+unfolding page-size
+put-number8-requires c κs = record { some = lit< tt; below = c .before .before .before .before .before .pre; within = lit≤ tt }
+
+same-length : tie.Need-same-length
+same-length c = search needs
+
+returns : tie.Need-returns
+unfolding page-size
+returns c = c .before .before .put-number8 .ensures ∙ rw (c .before .before .before .without-svme .ensures, c .before .before .before .before .before .efer-of .ensures)
+
+pub clear-svme-spec : {M : Type 1} → statement M
+clear-svme-spec =
+    tie.close
+    (tie.spec efer-of-requires without-svme-requires put-number8-requires same-length returns)

@@ -1,0 +1,75 @@
+-- `withdraw_call::give_back` meets its contract: a page in use is left alone, and a free one is listed and freed.
+-- Assumes nothing.
+use mathlib.Core.Path.{_≡_, refl, sym, _∙_}
+use native.Mathlib.Omega.{arith}
+use lib.Dec.{lit<}
+use mathlib.Core.Bool.{true, false}
+use lib.ListN.{getD}
+use denote.Ref.{now}
+use borrow.Author.Tests.{not-true, not-false}
+use Rattle.rules.specs.Words.{page-size, most-pages, little, places, each}
+use Rattle.rules.specs.Calls.{is-free, gpas}
+use Rattle.withdraw_call.specs.Given.{freed}
+use Rattle.withdraw_call.proofs.Giving.{given-none}
+use borrow.Author.Needs.{needs}
+use Rattle.withdraw_call.proofs.give_back.Statement.{statement}
+use Rattle.withdraw_call.proofs.give_back.Tie as tie
+
+slice-read-b : tie.Need-slice-read-b
+slice-read-b c = search needs
+
+is-free-requires : tie.Need-is-free-requires
+is-free-requires c κs = search needs
+
+returns : tie.Need-returns
+unfolding places
+returns c =
+    let a = c .before .before .before .before .before .args in
+    let in-use : is-free (getD (now (a .table)) (a .p) 0) ≡ false = sym (c .before .is-free .ensures) ∙ not-true (c .before .is-free .result) (c .if1 .taken) in
+    rw in-use (given-none (a .vmpl) (a .page) (a .at) (now (a .memory)) (now (a .table)))
+
+mul-put-number8 : tie.Need-mul-put-number8
+unfolding most-pages
+mul-put-number8 c = let pre = c .before .before .before .before .before .before .pre in omega (arith, pre .0 .most, pre .1)
+
+put-number8-requires : tie.Need-put-number8-requires
+unfolding page-size
+put-number8-requires c κs = let room = c .before .before .before .before .before .before .pre .0 in record { some = lit< tt; below = room .below; within = room .within }
+
+owned-requires : tie.Need-owned-requires
+owned-requires c κs = search needs
+
+granted-requires : tie.Need-granted-requires
+granted-requires c κs = search needs
+
+slice-write-table : tie.Need-slice-write-table
+slice-write-table c = search needs
+
+same-length : tie.Need-same-length
+same-length c = search needs
+
+same-length-2 : tie.Need-same-length-2
+same-length-2 c = search needs
+
+returns-2 : tie.Need-returns-2
+unfolding places each little gpas freed page-size
+returns-2 c =
+    let a = c .before .before .before .before .before .before .before .before .before .before .before .args in
+    let free : is-free (getD (now (a .table)) (a .p) 0) ≡ true = sym (c .before .before .before .before .before .before .before .is-free .ensures) ∙ not-false (c .before .before .before .before .before .before .before .is-free .result) (c .before .before .before .before .before .before .if1 .left) in
+    rw free (record { many = refl; freed-all = rw (c .granted .ensures, c .before .owned .ensures); listed = c .before .before .before .before .put-number8 .ensures })
+
+pub give-back-spec : {M : Type 1} → statement M
+give-back-spec =
+    tie.close
+    (tie.spec
+    slice-read-b
+    is-free-requires
+    returns
+    mul-put-number8
+    put-number8-requires
+    owned-requires
+    granted-requires
+    slice-write-table
+    same-length
+    same-length-2
+    returns-2)

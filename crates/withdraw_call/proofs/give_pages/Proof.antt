@@ -1,0 +1,123 @@
+-- `withdraw_call::give_pages` meets its contract. The loop's invariant: of the pages passed the free ones are given, and there is room for them.
+-- The measure is what is left of the table.
+-- Assumes nothing.
+use mathlib.Core.Path.{_≡_, refl, _∙_}
+use Prim.Native.Nat.{_-_, _<_, _≤_, zero-le}
+use native.Mathlib.Omega.{arith}
+use lib.ListN.{length, getD, take}
+use denote.Ref.{now}
+use Rattle.rules.specs.Words.{page-size, places}
+use Rattle.rules.specs.Calls.{is-free}
+use Rattle.withdraw_call.specs.Given.{Given}
+use Rattle.withdraw_call.proofs.Giving.{given-none, given-all, given-full, one-place, given-step, same-pages}
+use Rattle.withdraw_call.proofs.give_pages.Statement.{statement}
+use Rattle.withdraw_call.proofs.give_pages.Tie as tie
+
+abbrev Inv-loop : tie.InvT-loop
+Inv-loop memory₀ table₀ page at room vmpl p₀ taken₀ memory table p taken =
+    Given vmpl page at (places is-free 0 (take p table₀)) memory₀ table₀ memory table taken × (taken ≤ room) × (p ≤ length table₀) × (length table ≡ length table₀)
+    × (length memory ≡ length memory₀)
+
+abbrev μ-loop : tie.MeasureT-loop
+μ-loop memory₀ table₀ page at room vmpl p₀ taken₀ memory table p taken = length table₀ - p
+
+loop-holds : tie.Need-loop-holds Inv-loop μ-loop
+unfolding places
+loop-holds c =
+    let a = c .before .before .args in
+    (given-none (a .vmpl) (a .page) (a .at) (now (a .memory)) (now (a .table)), zero-le, zero-le, refl, refl)
+
+same-length : tie.Need-same-length Inv-loop μ-loop
+same-length c = c .before .before .loop .inv .4
+
+same-length-2 : tie.Need-same-length-2 Inv-loop μ-loop
+same-length-2 c = c .before .before .loop .inv .3
+
+returns : tie.Need-returns Inv-loop μ-loop
+returns c =
+    let l = c .before .before .loop in
+    let full : l .taken ≡ c .before .before .before .before .before .args .room = omega (arith, l .inv .1, c .if1 .taken) in
+    given-full _ _ _ _ _ _ _ _ _ (l .p) full (l .inv .0)
+
+mul-give-back : tie.Need-mul-give-back Inv-loop μ-loop
+unfolding page-size
+mul-give-back c = omega (arith, c .before .before .before .before .before .before .before .pre .within, c .before .before .if1 .left)
+
+add-give-back : tie.Need-add-give-back Inv-loop μ-loop
+unfolding page-size
+add-give-back c = omega (arith, c .before .before .before .before .before .before .before .pre .within, c .before .before .if1 .left)
+
+give-back-requires : tie.Need-give-back-requires Inv-loop μ-loop
+give-back-requires c κs =
+    let l = c .before .before .before .before .loop in
+    let a = c .before .before .before .before .before .before .before .args in
+    let pre = c .before .before .before .before .before .before .before .pre in (
+      record {
+        below = same-pages (now (a .memory)) (l .memory) (a .page) (l .inv .4) (pre .below);
+        within = omega (arith, pre .within, c .before .before .if1 .left);
+        most = rw (l .inv .3) (pre .most);
+      },
+      c .before .before .before .loop-test .taken,
+    )
+
+add-taken : tie.Need-add-taken Inv-loop μ-loop
+unfolding page-size
+add-taken c =
+    let l = c .before .before .before .before .before .before .before .before .before .loop in
+    let pre = c .before .before .before .before .before .before .before .before .before .before .before .before .pre in
+    let r = c .before .before .before .before .give-back in
+    omega (arith, pre .within, c .before .before .before .before .before .before .before .if1 .left, r .ensures .many, one-place (l .p) (getD (l .table) (l .p) 0))
+
+add-p : tie.Need-add-p Inv-loop μ-loop
+add-p c = omega arith
+
+loop-less : tie.Need-loop-less Inv-loop μ-loop
+loop-less c = omega arith
+
+loop-again : tie.Need-loop-again Inv-loop μ-loop
+loop-again c =
+    let l = c .before .before .before .before .before .before .before .before .before .loop in
+    let a = c .before .before .before .before .before .before .before .before .before .before .before .before .args in
+    let below = c .before .before .before .before .before .before .before .before .before .before .before .before .pre .below in
+    let r = c .before .before .before .before .give-back in
+    let more : l .p < length (now (a .table)) = omega (arith, l .inv .3, c .before .before .before .before .before .before .before .before .loop-test .taken) in (
+      given-step (a .vmpl) (a .page) (a .at) (l .p) (now (a .memory)) (now (a .table)) (l .memory) (l .table) (r .last .0) (r .last .1 .0) (l .taken) (r .result)
+          more below (l .inv .0) (r .ensures),
+      omega (arith, c .before .before .before .before .before .before .before .if1 .left, r .ensures .many, one-place (l .p) (getD (l .table) (l .p) 0)),
+      omega arith,
+      r .kept .1 .0 ∙ l .inv .3,
+      r .kept .0 ∙ l .inv .4,
+    )
+
+same-length-3 : tie.Need-same-length-3 Inv-loop μ-loop
+same-length-3 c = c .before .loop .inv .4
+
+same-length-4 : tie.Need-same-length-4 Inv-loop μ-loop
+same-length-4 c = c .before .loop .inv .3
+
+returns-2 : tie.Need-returns-2 Inv-loop μ-loop
+returns-2 c =
+    let l = c .before .loop in
+    let end : length (now (c .before .before .before .before .args .table)) ≤ l .p = omega (arith, l .inv .3, c .loop-test .left) in
+    given-all _ _ _ _ _ _ _ _ _ (l .p) end (l .inv .1) (l .inv .0)
+
+pub give-pages-spec : {M : Type 1} → statement M
+give-pages-spec =
+    tie.close
+    (tie.spec
+    Inv-loop
+    μ-loop
+    loop-holds
+    same-length
+    same-length-2
+    returns
+    mul-give-back
+    add-give-back
+    give-back-requires
+    add-taken
+    add-p
+    loop-less
+    loop-again
+    same-length-3
+    same-length-4
+    returns-2)
