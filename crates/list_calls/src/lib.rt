@@ -1,0 +1,93 @@
+// 1 Pvalidate and 4 Deposit: the head of a list, and the run over its entries. Nothing is assumed.
+ghost use mathlib.Core.Path.{_≡_};
+ghost use Prim.Native.Nat.{_+_};
+ghost use Rattle.rules.specs.Answers.{Answered, entry-code};
+ghost use Rattle.rules.specs.Lists;
+ghost use Rattle.rules.specs.Flat.{Buffers, parted};
+ghost use Rattle.list_calls.specs.Listed.{Listed};
+use rules::Code;
+use rules::Entry;
+use rules::ListCall;
+
+// The code that an entry was refused with.
+fn refusal(entry: Entry) -> Code
+    ensures { λ r. ⌜ r ≡ entry-code entry ⌝ }
+{
+    match entry {
+        Entry::Reads {
+            first: _,
+            count: _,
+            wish: _,
+        } => Code::Success,
+        Entry::Unread(code) => code,
+    }
+}
+
+// The end of a run that was not refused: the new index, and whether entries remain.
+fn stop(
+    memory: &mut [u8],
+    table: &[u8],
+    sheet: &[u8],
+    call: ListCall,
+    caller: usize,
+    rcx: u64,
+    k: usize,
+) -> Code
+    requires { ⌜ Listed (record { memory = now memory; table = now table; sheet = now sheet }) caller rcx k ⌝ }
+    ensures { λ r. ⌜
+        Rattle.rules.specs.Lists.run call caller rcx 0 k
+        (parted (record { memory = now (memory .entry); table = now (table .entry); sheet = now (sheet .entry) }))
+        ≡ record {
+          answer = r;
+          after = parted (record { memory = now (memory .exit); table = now (table .entry); sheet = now (sheet .entry) });
+        } ⌝ }
+{
+    let page = (rcx / 4096) as usize;
+    let offset = (rcx % 4096) as usize;
+    let count = parts::number2(memory, 4096, page, offset) as usize;
+    parts::put_number2(memory, 4096, page, offset + 2, k as u16);
+    if k < count {
+        Code::Incomplete
+    } else {
+        Code::Success
+    }
+}
+
+// `budget` entries from index `start` on.
+fn run(
+    memory: &mut [u8],
+    table: &mut [u8],
+    sheet: &[u8],
+    call: ListCall,
+    caller: usize,
+    rcx: u64,
+    start: usize,
+    budget: usize,
+) -> Code
+    requires { ⌜ Listed (record { memory = now memory; table = now table; sheet = now sheet }) caller rcx (start + budget) ⌝ }
+    ensures { λ r. ⌜
+        Rattle.rules.specs.Lists.run call caller rcx budget start
+        (parted (record { memory = now (memory .entry); table = now (table .entry); sheet = now (sheet .entry) }))
+        ≡ record {
+          answer = r;
+          after = parted (record { memory = now (memory .exit); table = now (table .exit); sheet = now (sheet .entry) });
+        } ⌝ }
+{
+    let page = (rcx / 4096) as usize;
+    let offset = (rcx % 4096) as usize;
+    let vmpl = parts::byte(sheet, 32, caller, 1);
+    let mut k = start;
+    let mut todo = budget;
+    while todo > 0 {
+        let e = parts::number8(memory, 4096, page, offset + 8 + 8 * k);
+        let entry = entries::reader::read(table, call, page, e);
+        let Entry::Reads { first, count, wish } = entry else {
+            parts::put_number2(memory, 4096, page, offset + 2, k as u16);
+            return refusal(entry);
+        };
+        effects::carry_out_all(memory, table, wish, vmpl, first, count);
+        k += 1;
+        todo -= 1;
+    }
+    stop(memory, table, sheet, call, caller, rcx, k)
+}
