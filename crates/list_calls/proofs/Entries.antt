@@ -5,7 +5,7 @@ use mathlib.Core.Bool.{Bool, true, false, cond, not, _&&_, and-eq-true-iff}
 use mathlib.Core.List.{List, []}
 use Prim.Native.Nat.{ℕ, suc, _+_, _-_, _*_, _/_, _%_, _<_, _≤_}
 use native.Mathlib.Omega.{arith}
-use native.Mathlib.Nat.{mul-div-cancel-left}
+use native.Mathlib.Nat.{mul-div-cancel-left, add-zero}
 use lib.Dec.{eqb, ltb, lit<}
 use lib.ListN.{length, getD}
 use borrow.Author.Tests.{ltb-true}
@@ -15,12 +15,12 @@ use Rattle.rules.specs.declared.ListCall.{ListCall}
 use Rattle.rules.specs.declared.ListCall.the-variants.{Pvalidate, Deposit}
 use Rattle.rules.specs.declared.Entry.{Entry}
 use Rattle.rules.specs.declared.Entry.the-variants.{Reads, Unread}
-use Rattle.rules.specs.Words.{page-size, bit, range, every}
+use Rattle.rules.specs.Words.{page-size, bit, number, range, every}
 use Rattle.rules.specs.Answers.{Answered, entry-code}
-use Rattle.rules.specs.Machine.{Lent, N, below, plain, page-of, vcpu, table-byte, owned-by, valid, usable}
-use Rattle.rules.specs.Lists.{list-entry, store-index, entry-first, entry-pages, covered, malformed, coverable, read-covered, read-entry, carry-out-all, after-entry, run}
+use Rattle.rules.specs.Machine.{Lent, N, below, plain, page-of, offset-of, page-at, vcpu, table-byte, owned-by, valid, usable}
+use Rattle.rules.specs.Lists.{in-list, list-count, list-next, list-entry, store-index, entry-first, entry-pages, covered, malformed, coverable, read-covered, read-entry, carry-out-all, after-entry, run}
 use Rattle.rules.specs.Call.{bad-machine, bad-sheet}
-use Rattle.rules.specs.Flat.{Buffers, parted}
+use Rattle.rules.specs.Flat.{Buffers, parts, parted}
 use Rattle.laws.proofs.Ranges.{by-test, every-same, every-range→}
 use Rattle.laws.proofs.FlatLaunch.{same-sizes}
 use Rattle.laws.proofs.Tested.{Tested}
@@ -121,3 +121,13 @@ still-tested b a caller t m l s =
       sized = same-sizes b a m l (ap length s) ∙ t .sized;
       shape = rw (l, s) (t .shape);
     }
+
+-- the head of a list, as it is read
+module _ (b : Buffers) (rcx r : ℕ) where
+  pub count-is : r ≡ number 2 (getD (parts page-size (b .memory)) (page-of rcx) []) (offset-of rcx) → list-count rcx (parted b) ≡ r
+  unfolding list-count in-list page-at parted
+  count-is e = rw add-zero (sym e)
+
+  pub next-is : r ≡ number 2 (getD (parts page-size (b .memory)) (page-of rcx) []) (offset-of rcx + 2) → list-next rcx (parted b) ≡ r
+  unfolding list-next in-list page-at parted
+  next-is e = sym e

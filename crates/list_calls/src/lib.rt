@@ -1,9 +1,11 @@
 // 1 Pvalidate and 4 Deposit: the head of a list, and the run over its entries. Nothing is assumed.
 ghost use mathlib.Core.Path.{_≡_};
-ghost use Prim.Native.Nat.{_+_};
+ghost use Prim.Native.Nat.{_+_, min};
+ghost use Rattle.rules.specs.Words.{entries-a-call};
 ghost use Rattle.rules.specs.Answers.{Answered, entry-code};
 ghost use Rattle.rules.specs.Lists;
 ghost use Rattle.rules.specs.Flat.{Buffers, parted};
+ghost use Rattle.laws.proofs.Tested.{Tested};
 ghost use Rattle.list_calls.specs.Listed.{Listed};
 use rules::Code;
 use rules::Entry;
@@ -90,4 +92,53 @@ fn run(
         todo -= 1;
     }
     stop(memory, table, sheet, call, caller, rcx, k)
+}
+
+// As many entries as a call does.
+fn at_most(left: usize) -> usize
+    ensures { λ r. ⌜ r ≡ min entries-a-call left ⌝ }
+{
+    if left < 32 { left } else { 32 }
+}
+
+// 1 Pvalidate, 4 Deposit.
+pub fn list_call(
+    memory: &mut [u8],
+    table: &mut [u8],
+    sheet: &[u8],
+    call: ListCall,
+    caller: usize,
+    rcx: u64,
+) -> Code
+    requires { ⌜ Tested (record { memory = now memory; table = now table; sheet = now sheet }) caller ⌝ }
+    ensures { λ r. ⌜
+        Rattle.rules.specs.Lists.list-call entries-a-call call caller rcx
+        (parted (record { memory = now (memory .entry); table = now (table .entry); sheet = now (sheet .entry) }))
+        ≡ record {
+          answer = r;
+          after = parted (record { memory = now (memory .exit); table = now (table .exit); sheet = now (sheet .entry) });
+        } ⌝ }
+{
+    if rcx % 8 != 0 {
+        return Code::Parameter;
+    }
+    let vmpl = parts::byte(sheet, 32, caller, 1);
+    if lists::bad_list_page(table, vmpl, rcx) {
+        return Code::Address;
+    }
+    let page = (rcx / 4096) as usize;
+    let offset = (rcx % 4096) as usize;
+    let count = parts::number2(memory, 4096, page, offset) as usize;
+    if count == 0 {
+        return Code::Parameter;
+    }
+    if offset + 8 + 8 * count > 4096 {
+        return Code::Parameter;
+    }
+    let next = parts::number2(memory, 4096, page, offset + 2) as usize;
+    if next >= count {
+        return Code::Parameter;
+    }
+    let budget = at_most(count - next);
+    run(memory, table, sheet, call, caller, rcx, next, budget)
 }

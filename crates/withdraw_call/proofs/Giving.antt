@@ -1,6 +1,5 @@
 -- Pages given back, one list of them after another, and what that is on the machine.
 use mathlib.Core.Path.{_≡_, refl, sym, _∙_, ap}
-use mathlib.Core.Bool.{Bool, false}
 use mathlib.Core.List.{List, [], _∷_, _++_}
 use Prim.Native.Nat.{ℕ, zero, suc, _+_, _-_, _*_, _/_, _<_, _≤_, zero-le}
 use native.Mathlib.Omega.{arith}
@@ -8,17 +7,15 @@ use native.Mathlib.Numerals.{add-one}
 use lib.ListN.{length, getD, take, drop, length-append, take-append-drop}
 use lib.Seq.{length-take-le, take-at, take-all}
 use Rattle.rules.specs.Words.{page-size, record-size, little, places, each}
-use Rattle.rules.specs.Machine.{Lent, page-of, offset-of, vcpu, record-at, fields, own, grant, change, write, with-memory, written}
-use Rattle.rules.specs.Lists.{bad-list-page}
+use Rattle.rules.specs.Machine.{Lent, page-of, offset-of, own, grant, change, write, with-memory, written}
 use Rattle.rules.specs.Calls.{is-free, give-back, gpas, withdrawn-pages, withdrawn}
-use Rattle.rules.specs.Flat.{Buffers, parts, parted}
+use Rattle.rules.specs.Flat.{parts, parted}
 use Rattle.laws.proofs.Numbers.{length-little}
 use Rattle.laws.proofs.Parts.{length-parts}
 use Rattle.laws.proofs.Ranges.{each-append, length-places, places-append, rising-places, rising→outside}
 use Rattle.laws.proofs.Counts.{revise, getD-not-revised, count-le-length, table-each, memory-each, sheet-each}
 use Rattle.laws.proofs.Writes.{written-append}
-use Rattle.laws.proofs.Tested.{Tested, pages-tested}
-use Rattle.laws.proofs.Withdrawals.{list-page-table, list-page-below, gpas-append, length-gpas, places-more, written-none, written-apart}
+use Rattle.laws.proofs.Withdrawals.{gpas-append, length-gpas, places-more, written-none, written-apart}
 use Rattle.withdraw_call.specs.Given.{freed, Given}
 
 module _ (vmpl page at : ℕ) (memory table : List ℕ) where
@@ -90,22 +87,6 @@ take-most (suc n) [] = zero-le
 take-most (suc n) (p ∷ ps) = omega (arith, take-most n ps)
 
 -- ---- the whole call
-
-module _ (caller rcx : ℕ) (b : Buffers) (v : ℕ) where
-  -- the caller's VMPL, as its byte is read
-  pub vmpl-is : v ≡ getD (getD (parts record-size (b .sheet)) caller []) 1 0 → vcpu (parted b) caller .vmpl ≡ v
-  unfolding vcpu record-at fields parted
-  vmpl-is e = sym e
-
-  -- the test of the list's page, as it is made on the table
-  pub bad-page-is : (r : Bool) → r ≡ bad-list-page v rcx (record { memory = []; table = b .table; sheet = [] }) → bad-list-page v rcx (parted b) ≡ r
-  unfolding parted
-  bad-page-is r e = list-page-table v rcx (parted b) ∙ sym e
-
-  -- a list's page that passes it is a page of a tested machine's memory
-  pub page-within : Tested b caller → bad-list-page v rcx (parted b) ≡ false → page-of rcx < length (parts page-size (b .memory))
-  unfolding parted
-  page-within t e = rw (pages-tested b caller t) (list-page-below v rcx (parted b) e)
 
 -- what is given is what the definition takes
 pub withdrawn-is : (vmpl rcx n : ℕ) (memory table sheet memory′ table′ memory″ : List ℕ) → page-of rcx < length (parts page-size memory)

@@ -14,7 +14,8 @@ use Rattle.rules.specs.Calls.{is-free, withdraw}
 use Rattle.rules.specs.Flat.{Buffers, memory-sized}
 use Rattle.laws.proofs.FlatSteps.{sizes}
 use Rattle.laws.proofs.Tested.{memory-tested, rows-tested, caller-below}
-use Rattle.withdraw_call.proofs.Giving.{vmpl-is, bad-page-is, page-within, same-pages, take-most, withdrawn-is}
+use Rattle.lists.proofs.Page.{vmpl-is, bad-page-is, page-within}
+use Rattle.withdraw_call.proofs.Giving.{same-pages, take-most, withdrawn-is}
 use borrow.Author.Needs.{needs}
 use Rattle.withdraw_call.proofs.withdraw.Statement.{statement}
 use Rattle.withdraw_call.proofs.withdraw.Tie as tie
