@@ -1,3 +1,3 @@
-// The entries of a list: what an entry covers and wishes, and what a wish does to the pages. Nothing is assumed.
+// The entries of a list: the pages that one covers, and the reader that makes all its checks. Nothing is assumed.
 pub mod covered;
 pub mod reader;
