@@ -1,0 +1,168 @@
+-- `call::dispatch` meets its contract: the call that RAX names, by its own contract.
+-- Assumes nothing.
+use mathlib.Core.Path.{refl}
+use borrow.Author.Tests.{ne-eqb}
+use Rattle.rules.specs.Machine.{with-lent}
+use Rattle.rules.specs.Call.{dispatch, on-lent, on-rcx, with-rcx}
+use Rattle.call.proofs.Chosen.{named}
+use borrow.Author.Needs.{needs}
+use Rattle.call.proofs.dispatch.Statement.{statement}
+use Rattle.call.proofs.dispatch.Tie as tie
+
+cast-number : tie.Need-cast-number
+cast-number c = search needs
+
+remap-requires : tie.Need-remap-requires
+remap-requires c κs = search needs
+
+list-call-requires : tie.Need-list-call-requires
+list-call-requires c κs = search needs
+
+create-requires : tie.Need-create-requires
+create-requires c κs = search needs
+
+delete-requires : tie.Need-delete-requires
+delete-requires c κs = search needs
+
+list-call-requires-2 : tie.Need-list-call-requires-2
+list-call-requires-2 c κs = search needs
+
+withdraw-requires : tie.Need-withdraw-requires
+withdraw-requires c κs = search needs
+
+queried-requires : tie.Need-queried-requires
+queried-requires c κs = search needs
+
+returns : tie.Need-returns
+unfolding dispatch on-rcx with-rcx
+returns c = rw (named (c .before .before .before .before .before .before .args .g) 6 (c .before .match .keys7), c .queried .ensures)
+
+answered-requires : tie.Need-answered-requires
+answered-requires c κs = search needs
+
+returns-2 : tie.Need-returns-2
+unfolding dispatch on-rcx with-rcx
+returns-2 c = rw (named (c .before .before .before .before .before .before .args .g) 7 (c .before .match .keys8), c .answered .ensures)
+
+same-length : tie.Need-same-length
+same-length c = search needs
+
+same-length-2 : tie.Need-same-length-2
+same-length-2 c = search needs
+
+same-length-3 : tie.Need-same-length-3
+same-length-3 c = search needs
+
+returns-3 : tie.Need-returns-3
+unfolding dispatch on-lent with-lent with-rcx
+returns-3 c = rw (named (c .before .before .before .before .before .before .before .before .before .before .before .before .before .before .before .args .g) 0 (c .before .before .before .before .before .before .before .before .before .before .match .keys1), c .before .before .before .before .before .before .remap .ensures)
+
+same-length-4 : tie.Need-same-length-4
+same-length-4 c = search needs
+
+same-length-5 : tie.Need-same-length-5
+same-length-5 c = search needs
+
+same-length-6 : tie.Need-same-length-6
+same-length-6 c = search needs
+
+returns-4 : tie.Need-returns-4
+unfolding dispatch on-lent with-lent with-rcx
+returns-4 c = rw (named (c .before .before .before .before .before .before .before .before .before .before .before .before .before .args .g) 1 (c .before .before .before .before .before .before .before .before .match .keys2), c .before .before .before .before .list-call .ensures)
+
+same-length-7 : tie.Need-same-length-7
+same-length-7 c = search needs
+
+same-length-8 : tie.Need-same-length-8
+same-length-8 c = search needs
+
+same-length-9 : tie.Need-same-length-9
+same-length-9 c = search needs
+
+returns-5 : tie.Need-returns-5
+unfolding dispatch on-lent with-lent with-rcx
+returns-5 c = rw (named (c .before .before .before .before .before .before .before .before .before .before .before .before .before .args .g) 2 (c .before .before .before .before .before .before .before .before .match .keys3), c .before .before .before .before .create .ensures)
+
+same-length-10 : tie.Need-same-length-10
+same-length-10 c = search needs
+
+same-length-11 : tie.Need-same-length-11
+same-length-11 c = search needs
+
+same-length-12 : tie.Need-same-length-12
+same-length-12 c = search needs
+
+returns-6 : tie.Need-returns-6
+unfolding dispatch on-lent with-lent with-rcx
+returns-6 c = rw (named (c .before .before .before .before .before .before .before .before .before .before .before .before .before .before .before .args .g) 3 (c .before .before .before .before .before .before .before .before .before .before .match .keys4), c .before .before .before .before .before .before .delete .ensures)
+
+same-length-13 : tie.Need-same-length-13
+same-length-13 c = search needs
+
+same-length-14 : tie.Need-same-length-14
+same-length-14 c = search needs
+
+same-length-15 : tie.Need-same-length-15
+same-length-15 c = search needs
+
+returns-7 : tie.Need-returns-7
+unfolding dispatch on-lent with-lent with-rcx
+returns-7 c = rw (named (c .before .before .before .before .before .before .before .before .before .before .before .before .before .args .g) 4 (c .before .before .before .before .before .before .before .before .match .keys5), c .before .before .before .before .list-call2 .ensures)
+
+same-length-16 : tie.Need-same-length-16
+same-length-16 c = search needs
+
+same-length-17 : tie.Need-same-length-17
+same-length-17 c = search needs
+
+same-length-18 : tie.Need-same-length-18
+same-length-18 c = search needs
+
+returns-8 : tie.Need-returns-8
+unfolding dispatch on-lent with-lent with-rcx
+returns-8 c = rw (named (c .before .before .before .before .before .before .before .before .before .before .before .before .before .args .g) 5 (c .before .before .before .before .before .before .before .before .match .keys6), c .before .before .before .before .withdraw .ensures)
+
+returns-9 : tie.Need-returns-9
+unfolding dispatch with-rcx
+returns-9 c = rw (named (c .before .before .before .before .before .args .g) _ refl, ne-eqb _ 0 (c .match .rest .0 .0 .0 .0 .0 .0 .0 .1), ne-eqb _ 1 (c .match .rest .0 .0 .0 .0 .0 .0 .1), ne-eqb _ 2 (c .match .rest .0 .0 .0 .0 .0 .1), ne-eqb _ 3 (c .match .rest .0 .0 .0 .0 .1), ne-eqb _ 4 (c .match .rest .0 .0 .0 .1), ne-eqb _ 5 (c .match .rest .0 .0 .1), ne-eqb _ 6 (c .match .rest .0 .1), ne-eqb _ 7 (c .match .rest .1))
+
+pub dispatch-spec : {M : Type 1} → statement M
+dispatch-spec =
+    tie.close
+    (tie.spec
+    cast-number
+    remap-requires
+    list-call-requires
+    create-requires
+    delete-requires
+    list-call-requires-2
+    withdraw-requires
+    queried-requires
+    returns
+    answered-requires
+    returns-2
+    same-length
+    same-length-2
+    same-length-3
+    returns-3
+    same-length-4
+    same-length-5
+    same-length-6
+    returns-4
+    same-length-7
+    same-length-8
+    same-length-9
+    returns-5
+    same-length-10
+    same-length-11
+    same-length-12
+    returns-6
+    same-length-13
+    same-length-14
+    same-length-15
+    returns-7
+    same-length-16
+    same-length-17
+    same-length-18
+    returns-8
+    returns-9)
