@@ -1,1 +1,2 @@
 pub mod Chosen
+pub mod Outcomes

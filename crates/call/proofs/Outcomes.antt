@@ -1,0 +1,46 @@
+-- A call on flat bytes: where it is bad or none nothing changes, and where it is handled the buffers are those whose parts are the new machine.
+use mathlib.Core.Path.{_≡_}
+use mathlib.Core.Bool.{true, false}
+use Prim.Native.Nat.{ℕ}
+use lib.ListN.{length}
+use borrow.Author.Tests.{eq-eqb}
+use Rattle.rules.specs.Words.{record-size, records}
+use Rattle.rules.specs.declared.Registers.{Registers}
+use Rattle.rules.specs.declared.Code.{Code}
+use Rattle.rules.specs.declared.Outcome.{Outcome}
+use Rattle.rules.specs.declared.Outcome.the-variants.{NoCall, BadMachine}
+use Rattle.rules.specs.Answers.{Answered, refuse}
+use Rattle.rules.specs.Machine.{Machine}
+use Rattle.rules.specs.Call.{Posed, bad-machine, no-call, handle, finish, call}
+use Rattle.rules.specs.Flat.{Buffers, parted, joined, memory-fits, memory-sized, sheet-sized, well-sized, call-bytes}
+use Rattle.laws.proofs.FlatLaunch.{joined-parted}
+
+pub well-sized-by : (b : Buffers) → memory-fits (length (b .table)) (length (b .memory)) ≡ true → length (b .sheet) ≡ 512 → well-sized b ≡ true
+unfolding well-sized memory-sized sheet-sized record-size records
+well-sized-by b fits s = rw (fits, eq-eqb _ 512 s)
+
+module _ (caller : ℕ) (g : Registers) (b : Buffers) where
+  pub call-unsized : well-sized b ≡ false
+      → call-bytes caller (record { registers = g; machine = b }) ≡ record { answer = BadMachine; after = record { registers = g; machine = b } }
+  unfolding call-bytes refuse
+  call-unsized e = rw e
+
+  module _ (sized : well-sized b ≡ true) where
+    pub call-bad : bad-machine caller (parted b) ≡ true
+        → call-bytes caller (record { registers = g; machine = b }) ≡ record { answer = BadMachine; after = record { registers = g; machine = b } }
+    unfolding call-bytes call refuse
+    call-bad e = rw (sized, e, joined-parted b sized)
+
+    module _ (good : bad-machine caller (parted b) ≡ false) where
+      pub call-none : no-call caller g (parted b) ≡ true
+          → call-bytes caller (record { registers = g; machine = b }) ≡ record { answer = NoCall; after = record { registers = g; machine = b } }
+      unfolding call-bytes call refuse
+      call-none e = rw (sized, good, e, joined-parted b sized)
+
+      pub call-ended : no-call caller g (parted b) ≡ false
+          → (a : Answered Code (Posed Registers Machine)) → handle caller (record { registers = g; machine = record { lent = parted b } }) ≡ a
+          → (o : Outcome) (r : Registers) (after : Buffers) → well-sized after ≡ true
+          → finish caller g a ≡ record { answer = o; after = record { registers = r; machine = record { lent = parted after } } }
+          → call-bytes caller (record { registers = g; machine = b }) ≡ record { answer = o; after = record { registers = r; machine = after } }
+      unfolding call-bytes call refuse
+      call-ended e a handled o r after s ended = rw (sized, good, e, handled, ended, joined-parted after s)

@@ -1,0 +1,56 @@
+-- `call::finish` meets its contract: gone where the record is live no more, else handled, and the last writes in their order.
+-- Assumes nothing.
+use borrow.Author.Tests.{eq-eqb, ne-eqb}
+use lib.Dec.{lit≤}
+use Rattle.rules.specs.Words.{records, record-size}
+use Rattle.rules.specs.Machine.{fields, record-at, is-live, with-lent}
+use Rattle.rules.specs.Call.{finish, with-rax, with-rcx}
+use Rattle.rules.specs.Flat.{parted}
+use Rattle.sheet.proofs.At.{at}
+use borrow.Author.Needs.{needs}
+use Rattle.call.proofs.finish.Statement.{statement}
+use Rattle.call.proofs.finish.Tie as tie
+
+byte-requires : tie.Need-byte-requires
+unfolding record-size records
+byte-requires c κs = at (c .before .before .before .pre) _ _ (lit≤ tt)
+
+set-flag-requires : tie.Need-set-flag-requires
+set-flag-requires c κs = search needs
+
+same-length : tie.Need-same-length
+same-length c = search needs
+
+returns : tie.Need-returns
+unfolding finish is-live record-at fields parted record-size with-lent
+returns c = rw (← c .before .before .before .before .before .byte .ensures, ne-eqb _ _ (c .before .before .before .before .if1 .taken), c .before .before .set-flag .ensures)
+
+clear-pending-requires : tie.Need-clear-pending-requires
+clear-pending-requires c κs = search needs
+
+set-flag-requires-2 : tie.Need-set-flag-requires-2
+set-flag-requires-2 c κs = search needs
+
+number-of-requires : tie.Need-number-of-requires
+number-of-requires c κs = search needs
+
+same-length-2 : tie.Need-same-length-2
+same-length-2 c = search needs
+
+returns-2 : tie.Need-returns-2
+unfolding finish is-live record-at fields parted record-size with-lent with-rax with-rcx
+returns-2 c = rw (← c .before .before .before .before .before .before .before .before .before .before .byte .ensures, eq-eqb _ _ (c .before .before .before .before .before .before .before .before .before .if1 .left), c .before .before .before .before .before .before .before .clear-pending .ensures, c .before .before .before .set-flag2 .ensures, ← c .number-of .ensures)
+
+pub finish-spec : {M : Type 1} → statement M
+finish-spec =
+    tie.close
+    (tie.spec
+    byte-requires
+    set-flag-requires
+    same-length
+    returns
+    clear-pending-requires
+    set-flag-requires-2
+    number-of-requires
+    same-length-2
+    returns-2)

@@ -1,0 +1,20 @@
+-- `call::flag` meets its contract.
+-- Assumes nothing.
+use Rattle.rules.specs.Words.{exists}
+use borrow.Author.Needs.{needs}
+use Rattle.call.proofs.flag.Statement.{statement}
+use Rattle.call.proofs.flag.Tie as tie
+
+any-free-requires : tie.Need-any-free-requires
+any-free-requires c κs = search needs
+
+returns : tie.Need-returns
+unfolding exists
+returns c = search needs
+
+returns-2 : tie.Need-returns-2
+unfolding exists
+returns-2 c = search needs
+
+pub flag-spec : {M : Type 1} → statement M
+flag-spec = tie.close (tie.spec any-free-requires returns returns-2)

@@ -1,0 +1,74 @@
+-- `call::handle` meets its contract: its two refusals in their order, then the call.
+-- Assumes nothing.
+use borrow.Author.Tests.{le-leb, lt-leb, eq-eqb, ne-eqb}
+use Rattle.rules.specs.Answers.{refuse}
+use Rattle.rules.specs.Call.{handle, with-rcx}
+use Rattle.call.proofs.Chosen.{protocol-is}
+use mir.Facts.{fits-lt-pow}
+use borrow.Author.Needs.{needs}
+use Rattle.call.proofs.handle.Statement.{statement}
+use Rattle.call.proofs.handle.Tie as tie
+
+pending-requires : tie.Need-pending-requires
+pending-requires c κs = search needs
+
+same-length : tie.Need-same-length
+same-length c = search needs
+
+same-length-2 : tie.Need-same-length-2
+same-length-2 c = search needs
+
+same-length-3 : tie.Need-same-length-3
+same-length-3 c = search needs
+
+returns : tie.Need-returns
+unfolding handle refuse with-rcx
+returns c = rw (← c .before .pending .ensures, le-leb _ _ (c .if1 .taken))
+
+same-length-4 : tie.Need-same-length-4
+same-length-4 c = search needs
+
+same-length-5 : tie.Need-same-length-5
+same-length-5 c = search needs
+
+same-length-6 : tie.Need-same-length-6
+same-length-6 c = search needs
+
+returns-2 : tie.Need-returns-2
+unfolding handle refuse with-rcx
+returns-2 c = rw (← c .before .before .before .pending .ensures, lt-leb _ _ (c .before .before .if1 .left), protocol-is (c .before .before .before .before .before .before .before .before .before .before .args .g) (fits-lt-pow (c .before .struct-known .given .0)), ne-eqb _ _ (c .if2 .taken))
+
+dispatch-requires : tie.Need-dispatch-requires
+dispatch-requires c κs = search needs
+
+same-length-7 : tie.Need-same-length-7
+same-length-7 c = search needs
+
+same-length-8 : tie.Need-same-length-8
+same-length-8 c = search needs
+
+same-length-9 : tie.Need-same-length-9
+same-length-9 c = search needs
+
+returns-3 : tie.Need-returns-3
+unfolding handle refuse
+returns-3 c = rw (← c .before .before .before .before .before .before .before .before .before .before .before .before .before .pending .ensures, lt-leb _ _ (c .before .before .before .before .before .before .before .before .before .before .before .before .if1 .left), protocol-is (c .before .before .before .before .before .before .before .before .before .before .before .before .before .before .before .before .before .before .before .before .args .g) (fits-lt-pow (c .before .before .before .before .before .before .before .before .before .before .before .struct-known .given .0)), eq-eqb _ _ (c .before .before .before .before .before .before .before .before .before .before .if2 .left)) (c .before .before .before .before .before .before .dispatch .ensures)
+
+pub handle-spec : {M : Type 1} → statement M
+handle-spec =
+    tie.close
+    (tie.spec
+    pending-requires
+    same-length
+    same-length-2
+    same-length-3
+    returns
+    same-length-4
+    same-length-5
+    same-length-6
+    returns-2
+    dispatch-requires
+    same-length-7
+    same-length-8
+    same-length-9
+    returns-3)
