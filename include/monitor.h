@@ -71,6 +71,16 @@ uint32_t monitor_store(uint8_t *memory, size_t memory_length,
  */
 uint32_t monitor_mark(uint8_t *sheet, size_t sheet_length, size_t record, uint8_t running);
 
+/*
+ * Carries out a call by the vCPU of a record (caller): 0 handled, 1 no call, 2 gone, 3 bad machine.
+ *
+ * The registers are 48 bytes, eight each, little-endian: RAX, RCX, RDX, R8, R9, and the exit reason. Where it is handled, RAX is the call's code.
+ */
+uint32_t monitor_call(uint8_t *memory, size_t memory_length,
+                      uint8_t *table, size_t table_length,
+                      uint8_t *sheet, size_t sheet_length,
+                      uint8_t *registers, size_t registers_length, size_t caller);
+
 #ifdef __cplusplus
 }
 #endif

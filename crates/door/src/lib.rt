@@ -1,11 +1,16 @@
 // The door for a host written in Rust or C: numbers and byte buffers only. Each function hands over to the monitor's and answers the paper's
 // number. None has a `requires`: any size and any number is answered. Nothing is assumed.
 ghost use mathlib.Core.Path.{_≡_};
+ghost use lib.ListN.{length};
+ghost use Rattle.rules.specs.Words.{registers-size};
+ghost use Rattle.rules.specs.Call.{Posed};
 ghost use Rattle.rules.specs.declared.Plan.{Plan};
-ghost use Rattle.rules.specs.Answers.{Answered, numbered, launched-number, verdict-number};
-ghost use Rattle.rules.specs.Flat.{Buffers, launch-bytes, store-bytes, mark-bytes};
+ghost use Rattle.rules.specs.Answers.{Answered, numbered, outcome-number, launched-number, verdict-number};
+ghost use Rattle.rules.specs.Flat.{Buffers, launch-bytes, store-bytes, mark-bytes, registers-of, register-bytes, door-bytes};
 use rules::Launched;
+use rules::Outcome;
 use rules::Plan;
+use rules::Registers;
 use rules::Verdict;
 
 fn launched(answer: Launched) -> u32
@@ -84,4 +89,75 @@ pub extern "C" fn monitor_mark(sheet: &mut [u8], number: usize, running: u8) -> 
         numbered verdict-number (mark-bytes number running (now (sheet .entry))) ≡ record { answer = r; after = now (sheet .exit) } ⌝ }
 {
     verdict(monitor::steps::mark(sheet, number, running))
+}
+
+fn outcome(answer: Outcome) -> u32
+    ensures { λ r. ⌜ r ≡ outcome-number answer ⌝ }
+{
+    match answer {
+        Outcome::Handled => 0,
+        Outcome::NoCall => 1,
+        Outcome::Gone => 2,
+        Outcome::BadMachine => 3,
+    }
+}
+
+// RAX, RCX, RDX, R8, R9 and the exit reason, eight bytes each.
+fn read_registers(bytes: &[u8]) -> Registers
+    requires { ⌜ length (now bytes) ≡ registers-size ⌝ }
+    ensures { λ r. ⌜ r ≡ registers-of (now (bytes .entry)) ⌝ }
+{
+    Registers {
+        rax: words::read8(bytes, 0),
+        rcx: words::read8(bytes, 8),
+        rdx: words::read8(bytes, 16),
+        r8: words::read8(bytes, 24),
+        r9: words::read8(bytes, 32),
+        reason: words::read8(bytes, 40),
+    }
+}
+
+fn write_registers(bytes: &mut [u8], g: Registers)
+    requires { ⌜ length (now bytes) ≡ registers-size ⌝ }
+    ensures { λ _. ⌜ now (bytes .exit) ≡ register-bytes g ⌝ }
+{
+    words::write8(bytes, 0, g.rax);
+    words::write8(bytes, 8, g.rcx);
+    words::write8(bytes, 16, g.rdx);
+    words::write8(bytes, 24, g.r8);
+    words::write8(bytes, 32, g.r9);
+    words::write8(bytes, 40, g.reason);
+}
+
+#[no_mangle]
+pub extern "C" fn monitor_call(
+    memory: &mut [u8],
+    table: &mut [u8],
+    sheet: &mut [u8],
+    registers: &mut [u8],
+    caller: usize,
+) -> u32
+    ensures { λ r. ⌜
+        numbered outcome-number (door-bytes caller
+        (record {
+          registers = now (registers .entry);
+          machine = record { memory = now (memory .entry); table = now (table .entry); sheet = now (sheet .entry) };
+        }))
+        ≡ record {
+          answer = r;
+          after = record {
+            registers = now (registers .exit);
+            machine = record { memory = now (memory .exit); table = now (table .exit); sheet = now (sheet .exit) };
+          };
+        } ⌝ }
+{
+    if registers.len() != 48 {
+        return outcome(Outcome::BadMachine);
+    }
+    let g = read_registers(registers);
+    let called = call::call(memory, table, sheet, g, caller);
+    let after = called.registers;
+    write_registers(registers, after);
+    let answer = called.outcome;
+    outcome(answer)
 }

@@ -38,4 +38,17 @@ extern "C" {
 
     /// Marks a record as running (1) or stopped (0): 0 done, 1 refused.
     pub fn monitor_mark(sheet: *mut u8, sheet_length: usize, record: usize, running: u8) -> u32;
+
+    /// A call by the vCPU of a record: 0 handled, 1 no call, 2 gone, 3 bad machine.
+    pub fn monitor_call(
+        memory: *mut u8,
+        memory_length: usize,
+        table: *mut u8,
+        table_length: usize,
+        sheet: *mut u8,
+        sheet_length: usize,
+        registers: *mut u8,
+        registers_length: usize,
+        caller: usize,
+    ) -> u32;
 }

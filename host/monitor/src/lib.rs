@@ -117,6 +117,41 @@ impl Verdict {
     }
 }
 
+/// What a call comes back with.
+#[derive(Clone, Copy, Debug, PartialEq, Eq, Hash)]
+pub enum Outcome {
+    /// 0: it is handled, and RAX is its code.
+    Handled,
+    /// 1: there is no call, and nothing has changed.
+    NoCall,
+    /// 2: the caller deleted itself.
+    Gone,
+    /// 3: the machine is bad, and nothing has changed.
+    BadMachine,
+}
+
+impl Outcome {
+    /// The number that document 01 gives the outcome.
+    pub fn number(self) -> u32 {
+        match self {
+            Outcome::Handled => 0,
+            Outcome::NoCall => 1,
+            Outcome::Gone => 2,
+            Outcome::BadMachine => 3,
+        }
+    }
+
+    fn from_number(number: u32) -> Outcome {
+        match number {
+            0 => Outcome::Handled,
+            1 => Outcome::NoCall,
+            2 => Outcome::Gone,
+            3 => Outcome::BadMachine,
+            _ => panic!("a call answered {number}, which document 01 does not know"),
+        }
+    }
+}
+
 /// Launches a machine by a plan.
 ///
 /// The table becomes 0x0A on the monitor's pages, 0x0D on the VMSA, 0x79 on the calling page, 0x78 on the other pages below V, and 0x00 on the rest. In the sheet,
@@ -185,14 +220,44 @@ pub fn mark(sheet: &mut [u8], record: usize, running: u8) -> Verdict {
     Verdict::from_number("mark", number)
 }
 
+/// Carries out a call by the vCPU of a record.
+///
+/// The registers are 48 bytes, eight each, little-endian: RAX, RCX, RDX, R8, R9, and the exit reason.
+pub fn call(
+    memory: &mut [u8],
+    table: &mut [u8],
+    sheet: &mut [u8],
+    registers: &mut [u8],
+    caller: usize,
+) -> Outcome {
+    // SAFETY: each pointer comes with the length of the slice that it is from, and slices that are borrowed mutably at once don't overlap.
+    let number = unsafe {
+        monitor_sys::monitor_call(
+            memory.as_mut_ptr(),
+            memory.len(),
+            table.as_mut_ptr(),
+            table.len(),
+            sheet.as_mut_ptr(),
+            sheet.len(),
+            registers.as_mut_ptr(),
+            registers.len(),
+            caller,
+        )
+    };
+    Outcome::from_number(number)
+}
+
 #[cfg(test)]
 mod tests {
-    use super::{Launched, Verdict};
+    use super::{Launched, Outcome, Verdict};
 
     #[test]
     fn each_answer_has_its_number() {
         for number in 0..5 {
             assert_eq!(Launched::from_number(number).number(), number);
+        }
+        for number in 0..4 {
+            assert_eq!(Outcome::from_number(number).number(), number);
         }
         for number in 0..2 {
             assert_eq!(Verdict::from_number("store", number).number(), number);

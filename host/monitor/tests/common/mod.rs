@@ -2,7 +2,7 @@
 
 #![allow(dead_code)] // Each test file takes what it needs.
 
-use monitor::{Launched, Plan, Verdict};
+use monitor::{Launched, Outcome, Plan, Verdict};
 use trials::Random;
 
 pub const PAGE: usize = 4096;
@@ -168,6 +168,27 @@ impl Twins {
         let step = || format!("a mark: {record:#x} {running}");
         self.same(answer.number(), expected, &step);
         answer
+    }
+
+    /// The answer, and the registers after the call.
+    #[track_caller]
+    pub fn call(&mut self, registers: &[u8], caller: usize) -> (Outcome, Vec<u8>) {
+        let [memory, table, sheet] = &mut self.core;
+        let mut lent = Guarded::new(registers, &BESIDE_OTHERS);
+        let buffers = (memory.lend(), table.lend(), sheet.lend());
+        let answer = monitor::call(buffers.0, buffers.1, buffers.2, lent.lend(), caller);
+        let mut after = registers.to_vec();
+        let expected = model::call(
+            &mut self.memory,
+            &mut self.table,
+            &mut self.sheet,
+            &mut after,
+            caller,
+        );
+        let step = || format!("a call by {caller}: {registers:x?}");
+        self.same(answer.number(), expected, &step);
+        lent.is("registers", &after, &step);
+        (answer, after)
     }
 
     #[track_caller]

@@ -1,0 +1,62 @@
+-- `door::monitor_call` meets its contract: the registers from their bytes, the call's answer as the paper's number, and back.
+-- Assumes nothing.
+use Rattle.rules.specs.Words.{registers-size}
+use borrow.Author.Tests.{eq-eqb, ne-eqb}
+use Rattle.rules.specs.Answers.{numbered, outcome-number, refuse}
+use Rattle.rules.specs.Flat.{door-bytes}
+use borrow.Author.Needs.{needs}
+use Rattle.door.proofs.monitor_call.Statement.{statement}
+use Rattle.door.proofs.monitor_call.Tie as tie
+
+outcome-requires : tie.Need-outcome-requires
+outcome-requires c κs = search needs
+
+returns : tie.Need-returns
+unfolding numbered door-bytes refuse registers-size
+returns c = rw (ne-eqb _ _ (c .before .if1 .taken), c .outcome .ensures)
+
+read-registers-requires : tie.Need-read-registers-requires
+unfolding registers-size
+read-registers-requires c κs = search needs
+
+call-requires : tie.Need-call-requires
+call-requires c κs = search needs
+
+write-registers-requires : tie.Need-write-registers-requires
+unfolding registers-size
+write-registers-requires c κs = search needs
+
+outcome-requires-2 : tie.Need-outcome-requires-2
+outcome-requires-2 c κs = search needs
+
+same-length : tie.Need-same-length
+same-length c = search needs
+
+same-length-2 : tie.Need-same-length-2
+same-length-2 c = search needs
+
+same-length-3 : tie.Need-same-length-3
+same-length-3 c = search needs
+
+same-length-4 : tie.Need-same-length-4
+same-length-4 c = search needs
+
+returns-2 : tie.Need-returns-2
+unfolding numbered door-bytes refuse registers-size
+returns-2 c = rw (eq-eqb _ _ (c .before .before .before .before .before .before .before .before .before .before .before .before .before .before .before .before .before .before .if1 .left), ← c .before .before .before .before .before .before .before .before .before .before .before .before .before .before .before .before .read-registers .ensures, c .before .before .before .before .before .before .before .before .before .before .before .before .call .ensures, c .before .before .before .write-registers .ensures, ← c .outcome2 .ensures)
+
+pub monitor-call-spec : {M : Type 1} → statement M
+monitor-call-spec =
+    tie.close
+    (tie.spec
+    outcome-requires
+    returns
+    read-registers-requires
+    call-requires
+    write-registers-requires
+    outcome-requires-2
+    same-length
+    same-length-2
+    same-length-3
+    same-length-4
+    returns-2)
