@@ -1,4 +1,4 @@
-/* The core called from C: the sixteen pages of document 01, a store and a mark. The last line is 'N passed, M failed'. */
+/* The core called from C: the sixteen pages of document 01, a store, a mark, and each of the eight calls. The last line is 'N passed, M failed'. */
 #include <stdio.h>
 #include <string.h>
 
@@ -6,9 +6,13 @@
 
 enum { N = 16, PAGE = 4096, GUARD = 16 };
 
+/* What a call comes back with, and the codes that document 01 gives a name. */
+enum { HANDLED, NO_CALL, GONE, BAD_MACHINE };
+static const uint64_t ADDRESS = 0x80000003, PARAMETER = 0x80000005, REQUEST = 0x80000006;
+
 /* Bytes after each buffer that nothing may write. */
-static uint8_t memory[N * PAGE + GUARD], table[N + GUARD], sheet[512 + GUARD];
-static uint8_t memory_before[sizeof memory], table_before[sizeof table], sheet_before[sizeof sheet];
+static uint8_t memory[N * PAGE + GUARD], table[N + GUARD], sheet[512 + GUARD], registers[48 + GUARD];
+static uint8_t memory_before[sizeof memory], table_before[sizeof table], sheet_before[sizeof sheet], registers_before[sizeof registers];
 
 static int passed, failed;
 
@@ -27,12 +31,13 @@ static void remember(void)
     memcpy(memory_before, memory, sizeof memory);
     memcpy(table_before, table, sizeof table);
     memcpy(sheet_before, sheet, sizeof sheet);
+    memcpy(registers_before, registers, sizeof registers);
 }
 
 static int unchanged(void)
 {
     return memcmp(memory, memory_before, sizeof memory) == 0 && memcmp(table, table_before, sizeof table) == 0
-        && memcmp(sheet, sheet_before, sizeof sheet) == 0;
+        && memcmp(sheet, sheet_before, sizeof sheet) == 0 && memcmp(registers, registers_before, sizeof registers) == 0;
 }
 
 /* Monitor 12 to 15, VMSA 11, V 8. */
@@ -44,6 +49,40 @@ static uint32_t launch(size_t sheet_length, size_t calling_page, size_t valid_be
 static uint32_t store(uint8_t vmpl, size_t page, size_t offset, const char *bytes)
 {
     return monitor_store(memory, N * PAGE, table, N, vmpl, page, offset, (const uint8_t *)bytes, strlen(bytes));
+}
+
+static void put(uint8_t *at, uint64_t value)
+{
+    for (int byte = 0; byte < 8; byte++) {
+        at[byte] = (uint8_t)(value >> 8 * byte);
+    }
+}
+
+/* The registers of a call, and the pending byte of the startup's calling page, which is page 10. */
+static void ask(uint64_t rax, uint64_t rcx, uint64_t rdx, uint64_t r8)
+{
+    memset(registers + 48, 0xEE, GUARD);
+    put(registers, rax);
+    put(registers + 8, rcx);
+    put(registers + 16, rdx);
+    put(registers + 24, r8);
+    put(registers + 32, 0x1234);
+    put(registers + 40, 0x403);
+    memory[10 * PAGE] = 1;
+    remember();
+}
+
+static uint32_t call(size_t caller)
+{
+    return monitor_call(memory, N * PAGE, table, N, sheet, 512, registers, 48, caller);
+}
+
+/* The startup's call is handled with this code. Beside RAX and the pending byte, it has changed what was written into the buffers' copies. */
+static int handled(uint64_t code)
+{
+    put(registers_before, code);
+    memory_before[10 * PAGE] = 0;
+    return call(0) == HANDLED && unchanged();
 }
 
 static void launches(void)
@@ -108,11 +147,164 @@ static void marks(void)
     check("byte +2 alone is 0", unchanged());
 }
 
+/* Pvalidate, Deposit and Withdraw of page 8. */
+static void list_calls(void)
+{
+    static const uint8_t list[16] = {1, 0, 0, 0, 0, 0, 0, 0, 4, 0x80, 0, 0, 0, 0, 0, 0};
+
+    memcpy(memory + 0x1000, list, sizeof list);
+    memset(memory + 0x8000, 0xEE, PAGE);
+    ask(1, 0x1000, 0, 0);
+    memory_before[0x1002] = 1;
+    memset(memory_before + 0x8000, 0, PAGE);
+    table_before[8] = 0x18;
+    check("Pvalidate", handled(0));
+
+    memory[0x1002] = 0;
+    ask(1, 0x1000, 0, 0);
+    check("Pvalidate, validity did not change", handled(0x80001010));
+    ask(1, 0xA000, 0, 0);
+    check("a list at the start of the calling page", handled(ADDRESS));
+
+    memory[0x1008] = 0;
+    ask(4, 0x1000, 0, 0);
+    memory_before[0x1002] = 1;
+    memory_before[0xA001] = 1;
+    table_before[8] = 0x0B;
+    check("Deposit", handled(0));
+    ask(4, 0x1000, 0, 0);
+    check("Deposit, next not below count", handled(PARAMETER));
+
+    memset(memory + 0x2000, 0xEE, 24);
+    ask(5, 0x2000, 0, 0);
+    memory_before[0x2000] = 1;
+    memory_before[0x2001] = 0;
+    put(memory_before + 0x2008, 0x8000);
+    memory_before[0xA001] = 0;
+    table_before[8] = 0x18;
+    check("Withdraw", handled(0));
+    ask(5, 0x2FF8, 0, 0);
+    check("Withdraw with no room", handled(PARAMETER));
+}
+
+/* A VMSA page that Create takes: VMPL 1, EFER bit 12, and the features that launch found. */
+static void write_vmsa(size_t page)
+{
+    memory[page * PAGE + 0xCA] = 1;
+    memory[page * PAGE + 0xD1] = 0x10;
+    memory[page * PAGE + 0x3B0] = 9;
+}
+
+static void vcpu_calls(void)
+{
+    static const uint8_t record_1[32] = {1, 1, 0, 0, 5, 0, 0, 0, 6, 0, 0, 0, 7};
+
+    write_vmsa(6);
+    ask(2, 0x6000, 0x7000, 5);
+    table_before[6] = 0x0D;
+    table_before[7] = 0x79;
+    memcpy(sheet_before + 32, record_1, 32);
+    check("Create", handled(0));
+    ask(2, 0x4000, 0x4000, 6);
+    check("Create with one page for both", handled(ADDRESS));
+
+    sheet[32 + 2] = 1;
+    ask(3, 0x6000, 0, 0);
+    check("Delete of a vCPU that runs", handled(0x80001003));
+    sheet[32 + 2] = 0;
+    ask(3, 0x6000, 0, 0);
+    memory_before[0x60D1] = 0;
+    table_before[6] = 0x18;
+    table_before[7] = 0x78;
+    memset(sheet_before + 32, 0, 32);
+    check("Delete", handled(0));
+}
+
+static void remaps(void)
+{
+    ask(0, 0xA000, 0, 0);
+    check("Remap to the same page", handled(0));
+    memory[0x3000] = memory[0x3001] = 0xEE;
+    ask(0, 0x3000, 0, 0);
+    memory_before[0x3000] = memory_before[0x3001] = 0;
+    table_before[3] = 0x79;
+    table_before[10] = 0x78;
+    sheet_before[12] = 3;
+    check("Remap", handled(0));
+    /* Back to page 10, with the pending byte in page 3. */
+    ask(0, 0xA000, 0, 0);
+    memory[0x3000] = 1;
+    table_before[3] = 0x78;
+    table_before[10] = 0x79;
+    sheet_before[12] = 10;
+    check("Remap back", handled(0));
+}
+
+static void query_calls(void)
+{
+    ask(6, 1, 0, 0);
+    put(registers_before + 8, 0x0000000100000001);
+    check("Query of 1", handled(0));
+    ask(6, 2, 0, 0);
+    put(registers_before + 8, 0);
+    check("Query of 2", handled(0));
+    ask(7, 1, 0, 0);
+    put(registers_before + 8, 0);
+    check("vTOM, the query", handled(0));
+    ask(7, 0x1000, 0, 0);
+    check("vTOM, bit 1 clear with bit 12 set", handled(PARAMETER));
+    ask(7, 0x1002, 0, 0);
+    check("vTOM, configure", handled(REQUEST));
+    ask(8, 1, 0, 0);
+    check("call 8", handled(0x80000002));
+    ask((uint64_t)1 << 32, 1, 0, 0);
+    check("protocol 1", handled(0x80000001));
+}
+
+static void outcomes(void)
+{
+    ask(6, 1, 0, 0);
+    memory[10 * PAGE] = memory_before[10 * PAGE] = 0;
+    check("no call: pending byte 0", call(0) == NO_CALL && unchanged());
+    ask(6, 1, 0, 0);
+    registers[40] = registers_before[40] = 2;
+    check("no call: exit reason 0x402", call(0) == NO_CALL && unchanged());
+
+    ask(6, 1, 0, 0);
+    check("bad machine: record 1 is not live", call(1) == BAD_MACHINE && unchanged());
+    check("bad machine: record 16", call(16) == BAD_MACHINE && unchanged());
+    check("bad machine: 47 bytes of registers",
+        monitor_call(memory, N * PAGE, table, N, sheet, 512, registers, 47, 0) == BAD_MACHINE && unchanged());
+    check("bad machine: a page of memory too many",
+        monitor_call(memory, N * PAGE, table, N - 1, sheet, 512, registers, 48, 0) == BAD_MACHINE && unchanged());
+    sheet[2] = sheet_before[2] = 2;
+    check("bad machine: a running byte of 2", call(0) == BAD_MACHINE && unchanged());
+    sheet[2] = 0;
+
+    write_vmsa(6);
+    ask(2, 0x6000, 0x7000, 5);
+    check("Create again", call(0) == HANDLED);
+    memory[7 * PAGE] = 1;
+    memory[0xA001] = 0xEE;
+    ask(3, 0x6000, 0, 0);
+    memory_before[0x60D1] = 0;
+    memory_before[0xA001] = 0;
+    table_before[6] = 0x18;
+    table_before[7] = 0x78;
+    memset(sheet_before + 32, 0, 32);
+    check("gone: the registers and its pending byte stay", call(1) == GONE && unchanged());
+}
+
 int main(void)
 {
     launches();
     stores();
     marks();
+    list_calls();
+    vcpu_calls();
+    remaps();
+    query_calls();
+    outcomes();
     printf("%d passed, %d failed\n", passed, failed);
     return failed == 0 ? 0 : 1;
 }

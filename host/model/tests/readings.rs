@@ -12,7 +12,6 @@ const PVALIDATE: u64 = 1;
 const DELETE: u64 = 3;
 const DEPOSIT: u64 = 4;
 const WITHDRAW: u64 = 5;
-const VTOM: u64 = 7;
 
 /// 1,030 pages, the first 1,000 valid.
 fn large() -> Owned {
@@ -99,36 +98,6 @@ fn an_entry_may_not_cover_its_own_list() {
 }
 
 #[test]
-fn entries_with_faults() {
-    let mut machine = large();
-    let last = (1_u64 << 52) - 512;
-    let faults = [
-        (PVALIDATE, 0x8006, PARAMETER),
-        (PVALIDATE, 0x8007, PARAMETER),
-        (PVALIDATE, 0x8010, PARAMETER),
-        (PVALIDATE, 0x8800, PARAMETER),
-        (PVALIDATE, 0x8005, PARAMETER),
-        (DEPOSIT, 0x8004, PARAMETER),
-        (DEPOSIT, 0x8008, PARAMETER),
-        (DEPOSIT, 0x8002, PARAMETER),
-        (PVALIDATE, 1030 << 12, ADDRESS),
-        (PVALIDATE, 0x8000 | 1 << 32, ADDRESS),
-        (PVALIDATE, 0x8000 | 1 << 44, ADDRESS),
-        (PVALIDATE, 1024 << 12 | 1, ADDRESS),
-        (PVALIDATE, last << 12 | 1, ADDRESS),
-        (PVALIDATE, 1029 << 12, ADDRESS),
-        (DEPOSIT, 1001 << 12, ADDRESS),
-    ];
-    for (call, entry, code) in faults {
-        machine.list(0x1000, 1, &[0, entry]);
-        let before = machine.clone();
-        assert_eq!(machine.call(call, 0x1000), code, "entry {entry:#x}");
-        assert_eq!(machine.memory, before.memory);
-        assert_eq!(machine.table, before.table);
-    }
-}
-
-#[test]
 fn a_wish_for_invalid_that_bit_3_excused_is_carried_out() {
     let mut machine = Owned::sixteen();
     machine.table[9] = 0x70; // invalid and yet permitted: not sound
@@ -140,65 +109,19 @@ fn a_wish_for_invalid_that_bit_3_excused_is_carried_out() {
 }
 
 #[test]
-fn the_entry_after_the_32nd_has_not_been_read() {
+fn a_list_in_the_calling_page() {
     let mut machine = Owned::sixteen();
-    let mut entries = vec![0x800C; 33];
-    entries[32] = 0xFFFF_FFFF_FFFF_FFFF;
-    machine.list(0x1000, 0, &entries);
-    assert_eq!(machine.call(PVALIDATE, 0x1000), INCOMPLETE);
-    assert_eq!(machine.index(0x1000), 32);
-    assert_eq!(machine.call(PVALIDATE, 0x1000), PARAMETER);
-    assert_eq!(machine.index(0x1000), 32);
-}
-
-#[test]
-fn list_heads() {
-    let mut machine = Owned::sixteen();
-    for (rcx, code) in [
-        (0x1004, PARAMETER),         // not a multiple of 8
-        (0x1_0004, PARAMETER),       // the same, past N
-        (0x1_0000, ADDRESS),         // page 16
-        (0x1000 | 1 << 32, ADDRESS), // page 1 in the low 32 bits only
-        (0x8000, ADDRESS),           // not valid
-        (0xB008, ADDRESS),           // VMSA
-        (0xC008, ADDRESS),           // monitor
-        (0xA000, ADDRESS),           // calling, offset 0
-        (0x1000, PARAMETER),         // count 0
-        (0x1FF8, PARAMETER),         // no room for an entry
-        (0xFFFF_FFFF_FFFF_FFF8, ADDRESS),
-    ] {
-        for call in [PVALIDATE, DEPOSIT] {
-            machine.write(0x1FF8, &[1, 0]);
-            assert_eq!(machine.call(call, rcx), code, "{rcx:#x}");
-        }
-    }
-    // "RCX not a multiple of 8, or offset 0xFF8" comes before the page's test.
-    assert_eq!(machine.call(WITHDRAW, 0x1_0FF8), PARAMETER);
-    assert_eq!(machine.call(WITHDRAW, 0x1_0FF0), ADDRESS);
     assert_eq!(machine.call(WITHDRAW, 0xA000), ADDRESS);
     assert_eq!(machine.call(WITHDRAW, 0xA008), SUCCESS);
-    // In the calling page a list is fine at any other offset.
     machine.list(0xA008, 0, &[0x8004]);
     assert_eq!(machine.call(PVALIDATE, 0xA008), SUCCESS);
     assert_eq!(machine.index(0xA008), 1);
-    machine.write(0xA00A, &[1, 0]);
     assert_eq!(machine.call(PVALIDATE, 0xA008), PARAMETER);
 }
 
 #[test]
 fn remap() {
     let mut machine = Owned::sixteen();
-    for (rcx, code) in [
-        (0x3008, PARAMETER),
-        (0x1_0000, ADDRESS),
-        (0x3000 | 1 << 32, ADDRESS),
-        (0x8000, ADDRESS),
-        (0xB000, ADDRESS),
-        (0xC000, ADDRESS),
-    ] {
-        assert_eq!(machine.call(REMAP, rcx), code);
-        assert_eq!(machine.calling_page(0), 10);
-    }
     machine.write(0x3000, &[9, 9, 9]);
     machine.write(0xA000, &[9, 9, 9]);
     assert_eq!(machine.call(REMAP, 0x3000), SUCCESS);
@@ -223,41 +146,10 @@ fn remap() {
 }
 
 #[test]
-fn create_refusals_in_order() {
+fn create_touches_no_byte_of_the_new_calling_page() {
     let mut machine = Owned::launched(16, 8, 2);
-    machine.write_vmsa(6, 2);
-    let create = |machine: &mut Owned, rcx, rdx, r8| machine.call_of(0, 2, rcx, rdx, r8);
-    for (rcx, rdx, code) in [
-        (0x6001, 0x7000, PARAMETER),
-        (0x6000, 0x7008, PARAMETER),
-        (0x1_0000, 0x7008, PARAMETER),
-        (0x1_0000, 0x7000, ADDRESS),
-        (0x6000, 0x1_0000, ADDRESS),
-        (0x6000 | 1 << 32, 0x7000, ADDRESS),
-        (0x8000, 0x7000, ADDRESS),
-        (0x6000, 0x8000, ADDRESS),
-        (0x6000, 0xA000, ADDRESS),
-        (0xB000, 0x7000, ADDRESS),
-        (0x6000, 0x6000, ADDRESS),
-    ] {
-        assert_eq!(create(&mut machine, rcx, rdx, 5), code, "{rcx:#x} {rdx:#x}");
-    }
-    for vmpl in [0, 1, 4, 255] {
-        machine.memory[0x60CA] = vmpl;
-        assert_eq!(create(&mut machine, 0x6000, 0x7000, 5), PARAMETER);
-    }
-    machine.memory[0x60CA] = 3;
-    machine.memory[0x60D1] = 0xEF;
-    assert_eq!(create(&mut machine, 0x6000, 0x7000, 5), PARAMETER);
-    machine.memory[0x60D1] = 0x10;
-    machine.memory[0x63B7] = 1;
-    assert_eq!(create(&mut machine, 0x6000, 0x7000, 5), PARAMETER);
-    machine.memory[0x63B7] = 0;
-    // Record 0 has APIC ID 0; R8 bits 63:32 don't count.
-    assert_eq!(create(&mut machine, 0x6000, 0x7000, 1 << 32), PARAMETER);
-    // "Create touches no byte of the new calling page".
     machine.memory[0x7000] = 1;
-    assert_eq!(create(&mut machine, 0x6000, 0x7000, 1 << 31), SUCCESS);
+    assert_eq!(machine.create(6, 3, 7, 1 << 31), SUCCESS);
     assert_eq!(machine.memory[0x7000], 1);
     assert_eq!(machine.sheet[32..34], [1, 3]);
     assert!(machine.sound());
@@ -339,16 +231,7 @@ fn delete() {
     assert_eq!(machine.create(4, 1, 5, 4), SUCCESS);
     assert_eq!(machine.create(6, 2, 7, 6), SUCCESS);
     assert_eq!(mark(&mut machine.sheet, 1, 1), 0);
-    for (rcx, code) in [
-        (0x4008, PARAMETER),
-        (0x5000, PARAMETER),
-        (0x4000 | 1 << 32, PARAMETER),
-        (0x4000 | 1 << 44, PARAMETER),
-        (0xB000, PARAMETER),
-        (0x4000, IN_USE),
-    ] {
-        assert_eq!(machine.call(DELETE, rcx), code);
-    }
+    assert_eq!(machine.call(DELETE, 0x4000), IN_USE);
     // Record 2 is of VMPL 2: record 1 is not its to delete, running or not.
     assert_eq!(machine.call_of(2, DELETE, 0x4000, 0, 0), PARAMETER);
     // A vCPU that deletes itself may be running.
@@ -383,60 +266,15 @@ fn where_two_records_name_one_vmsa_the_lowest_counts() {
 }
 
 #[test]
-fn vtom() {
+fn every_pending_byte_from_2_up() {
     let mut machine = Owned::sixteen();
-    for (rcx, code, after) in [
-        (1, SUCCESS, 0),
-        (3, PARAMETER, 3),
-        (1 << 63 | 1, PARAMETER, 1 << 63 | 1),
-        (0, REQUEST, 0),
-        (0x1E, REQUEST, 0x1E),
-        (0x20, PARAMETER, 0x20),
-        (0x800, PARAMETER, 0x800),
-        (0x802, PARAMETER, 0x802),
-        (0x1000, PARAMETER, 0x1000),
-        (0x1002, REQUEST, 0x1002),
-        (1 << 63, PARAMETER, 1 << 63),
-        (1 << 63 | 2, REQUEST, 1 << 63 | 2),
-    ] {
-        assert_eq!(machine.call(VTOM, rcx), code, "{rcx:#x}");
-        assert_eq!(machine.rcx(), after);
-    }
-}
-
-#[test]
-fn codes_before_the_eight_calls() {
-    let mut machine = Owned::sixteen();
-    for (rax, code) in [
-        (8, CALL_NOT_KNOWN),
-        (0xFFFF_FFFF, CALL_NOT_KNOWN),
-        (1 << 32, PROTOCOL_NOT_KNOWN),
-        (1 << 32 | 8, PROTOCOL_NOT_KNOWN),
-        (1 << 63 | 6, PROTOCOL_NOT_KNOWN),
-    ] {
-        assert_eq!(machine.call(rax, 1), code);
-        assert_eq!(machine.rcx(), 1);
-    }
+    put_number(&mut machine.registers, EXIT_REASON, 8, 0x403);
     for pending in 2..=255 {
         put_number(&mut machine.registers, RAX, 8, 1 << 32 | 6);
         machine.memory[0xA000] = pending;
         assert_eq!(machine.call_raw(0), HANDLED);
         assert_eq!(machine.registers[..8], u64::from(BAD_PENDING).to_le_bytes());
         assert_eq!(machine.memory[0xA000], 0);
-    }
-}
-
-#[test]
-fn no_call() {
-    let mut machine = Owned::sixteen();
-    machine.memory[0xA001] = 7;
-    for (pending, exit_reason) in [(0, 0x403), (1, 0x402), (1, 0x403 + (1 << 32)), (2, 0)] {
-        put_number(&mut machine.registers, RAX, 8, 6);
-        put_number(&mut machine.registers, EXIT_REASON, 8, exit_reason);
-        machine.memory[0xA000] = pending;
-        let before = machine.clone();
-        assert_eq!(machine.call_raw(0), NO_CALL);
-        assert_eq!(machine, before);
     }
 }
 

@@ -10,7 +10,7 @@ use common::Owned;
 use model::call::*;
 use model::machine::{number, owner, PAGE, POOL_FREE, POOL_IN_USE};
 use model::{mark, store};
-use trials::{prepare_call, steps_or, Random};
+use trials::{draw_call, steps_or, Random};
 
 const STEPS_OF_A_RUN: u64 = 300;
 
@@ -99,7 +99,8 @@ fn one_step(random: &mut Random, machine: &mut Owned) -> String {
 }
 
 fn one_call(random: &mut Random, machine: &mut Owned) -> String {
-    let call = prepare_call(random, &mut machine.memory, &machine.table, &machine.sheet);
+    let call = draw_call(random, &machine.table, &machine.sheet);
+    call.write_into(&mut machine.memory);
     machine.registers = call.registers.to_vec();
     let before = machine.clone();
     let outcome = machine.call_raw(call.caller);

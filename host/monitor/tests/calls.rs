@@ -1,82 +1,95 @@
-//! Calls that a guest might make, one after the other, with damage at times: the core against the model.
+//! Runs from launch: calls that a guest might make, stores and marks, one after the other. The core against the model.
 //!
 //! The numbers are the same in every run. MONITOR_STEPS=10000000 tries more of them, MONITOR_SEED others.
 
 mod common;
 
-use common::{Buffer, Twins, PAGE, SVME};
-use monitor::{Launched, Outcome, Plan};
-use std::collections::BTreeMap;
-use trials::{prepare_call, steps_or, Random};
+use common::guest::{launched, step};
+use common::seen::Seen;
+use model::call::{IN_USE, REQUEST, SIZE_MISMATCH};
+use trials::{steps_or, Random};
 
-const CALLS_OF_A_MACHINE: u64 = 200;
-
-#[test]
-fn calls_at_random() {
-    let mut random = Random::seeded(11);
-    let calls = steps_or(40_000);
-    // How often each outcome came, and each code of each call.
-    let mut outcomes = [0; 4];
-    let mut codes = BTreeMap::new();
-    for _ in 0..calls.div_ceil(CALLS_OF_A_MACHINE) {
-        let mut twins = launched(&mut random);
-        for _ in 0..CALLS_OF_A_MACHINE {
-            let mut memory = twins.memory.clone();
-            let call = prepare_call(&mut random, &mut memory, &twins.table, &twins.sheet);
-            twins.poke(Buffer::Memory, 0, &memory);
-            if random.once_in(100) {
-                let at = random.below(512);
-                twins.poke(Buffer::Sheet, at, &[random.byte()]);
-            }
-            if random.once_in(4) {
-                let record = random.below(16);
-                twins.mark(record, random.below(2) as u8);
-            }
-            let length = if random.once_in(200) {
-                random.below(48)
-            } else {
-                48
-            };
-            let (outcome, after) = twins.call(&call.registers[..length], call.caller);
-            outcomes[outcome.number() as usize] += 1;
-            if outcome == Outcome::Handled {
-                *codes
-                    .entry((call.registers[0], after[..4].to_vec()))
-                    .or_insert(0) += 1;
-            }
+/// Runs of so many steps, on machines of as many pages as are drawn.
+fn runs(random: &mut Random, steps: u64, length: u64, pages: fn(&mut Random) -> usize) -> Seen {
+    let mut seen = Seen::default();
+    for _ in 0..steps.div_ceil(length) {
+        let n = pages(random);
+        let mut twins = launched(random, n);
+        for _ in 0..length {
+            step(random, &mut twins, &mut seen);
         }
     }
-    println!("outcomes {outcomes:?}, codes {codes:x?}");
-    if calls >= 40_000 {
-        assert!(outcomes.iter().all(|&times| times > 0), "{outcomes:?}");
-        for called in 0..8 {
-            let success = codes.get(&(called, vec![0; 4]));
-            assert!(
-                success.is_some(),
-                "call {called} never succeeded: {codes:x?}"
-            );
-        }
+    println!("{seen}");
+    seen
+}
+
+#[test]
+fn runs_of_small_machines() {
+    let mut random = Random::seeded(11);
+    let steps = steps_or(500_000);
+    let seen = runs(&mut random, steps, 500, |random| match random.below(3) {
+        0 => 48 + random.below(20),
+        _ => 6 + random.below(30),
+    });
+    if steps >= 100_000 {
+        // Only 512 pages can be of unequal validity.
+        seen.must(
+            &[(1, SIZE_MISMATCH)],
+            &[
+                "16 live records",
+                "Create of a record from 4 up",
+                "Create with a VMPL above the caller's",
+                "Delete of another that holds a pool page",
+                "Delete of itself, running",
+                "Delete of itself, with a pool page",
+                "Remap to another page",
+                "Remap to the same page",
+                "Withdraw into a calling page",
+                "Withdraw of as many as fit",
+                "Withdraw of nothing",
+                "a list at offset 0 of a calling page",
+                "a list in another's calling page",
+                "a list in its caller's calling page",
+                "a list taken up again and ended",
+                "a list that ends with its page",
+                "an entry above its list",
+                "an entry below its list",
+                "an entry on its own list",
+            ],
+        );
     }
 }
 
-fn launched(random: &mut Random) -> Twins {
-    let n = if random.once_in(8) {
-        1030
-    } else {
-        12 + random.below(40)
-    };
-    let mut twins = Twins::random(random, [PAGE * n, n, 512]);
-    let plan = Plan {
-        pages: n,
-        monitor_first: n - 4,
-        monitor_count: 4,
-        vmsa_page: n - 5,
-        calling_page: n - 6,
-        apic_id: 7,
-        valid_below: random.below(n + 1),
-    };
-    let vmpl = 1 + random.below(3) as u8;
-    twins.poke_vmsa(plan.vmsa_page, vmpl, SVME);
-    assert_eq!(twins.launch(&plan), Launched::Made);
-    twins
+/// Machines with room for entries of 512 pages. A step takes a hundred times as long as on a small one, so there are a hundred times fewer.
+#[test]
+fn runs_with_entries_of_512_pages() {
+    let mut random = Random::seeded(12);
+    let steps = steps_or(1_200_000) / 100;
+    let seen = runs(&mut random, steps, 60, |random| match random.below(25) {
+        0 => 8192 - random.below(2) * random.below(600),
+        1..=3 => 1100 + random.below(1500),
+        4..=6 => 512,
+        7 => 511,
+        8..=15 => 1024 + random.below(76),
+        _ => 513 + random.below(587),
+    });
+    if steps >= 12_000 {
+        // These runs are too short for 16 live vCPUs, and most for one that runs.
+        seen.must(
+            &[(2, REQUEST), (3, IN_USE)],
+            &[
+                "512 pages above their list",
+                "512 pages below their list",
+                "512 pages deposited",
+                "512 pages made invalid",
+                "512 pages made valid",
+                "512 pages past the last",
+                "512 pages that bit 3 excused",
+                "512 pages with their list inside",
+                "Withdraw of 511 pages",
+                "Withdraw of as many as fit",
+                "a list taken up again and ended",
+            ],
+        );
+    }
 }

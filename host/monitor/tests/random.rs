@@ -46,19 +46,7 @@ fn machine(random: &mut Random) -> Twins {
         11..=60 => 9 + random.below(30),
         _ => 3 + random.below(6),
     };
-    let mut lengths = [PAGE * n, n, 512];
-    if random.once_in(12) {
-        let which = random.below(3);
-        lengths[which] = match random.below(6) {
-            0 => lengths[which] + 1,
-            1 => lengths[which].saturating_sub(1),
-            2 => lengths[which] + PAGE,
-            3 => lengths[which].saturating_sub(PAGE),
-            4 => random.below(2 * lengths[which] + 2),
-            _ => 0,
-        };
-    }
-    Twins::random(random, lengths)
+    Twins::sized_at_random(random, n)
 }
 
 /// A few bytes somewhere: any, or ones that look like the real thing.

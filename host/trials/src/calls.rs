@@ -8,33 +8,62 @@ const PAGE: usize = 4096;
 pub struct Call {
     pub registers: [u8; 48],
     pub caller: usize,
+    /// What the guest has written for it, in order, each at its gPA: the list, the VMSA's fields, the pending byte.
+    written: Vec<(u64, Vec<u8>)>,
 }
 
-/// Chooses a caller and a call, and writes into memory what the guest would have written: the list, the VMSA's fields, the pending byte. Buffers of any size
-/// will do; what lies outside them is not written.
-pub fn prepare_call(random: &mut Random, memory: &mut [u8], table: &[u8], sheet: &[u8]) -> Call {
+impl Call {
+    /// Writes into memory what the guest has written for the call. What lies outside is left out.
+    pub fn write_into(&self, memory: &mut [u8]) {
+        for (gpa, bytes) in &self.written {
+            let start = usize::try_from(*gpa).ok();
+            let place = start.and_then(|start| Some(start..start.checked_add(bytes.len())?));
+            if let Some(part) = place.and_then(|place| memory.get_mut(place)) {
+                part.copy_from_slice(bytes);
+            }
+        }
+    }
+}
+
+/// Chooses a caller and a call, and what the guest writes for it. A table and a sheet of any size will do.
+pub fn draw_call(random: &mut Random, table: &[u8], sheet: &[u8]) -> Call {
     let mut guest = Guest {
         random,
-        memory,
         table,
         sheet,
+        written: Vec::new(),
     };
-    guest.prepare()
+    let caller = guest.caller();
+    let called = guest.called();
+    let [rcx, rdx, r8] = guest.arguments(caller, called);
+    let r9 = guest.random.number();
+    // What stands at byte 0 of the calling page is written last.
+    let pending = guest.pending();
+    guest.write(PAGE as u64 * guest.field(caller, 12), &[pending]);
+    let exit_reason = guest.exit_reason();
+    let mut registers = [0; 48];
+    for (index, value) in [called, rcx, rdx, r8, r9, exit_reason].iter().enumerate() {
+        registers[8 * index..8 * index + 8].copy_from_slice(&value.to_le_bytes());
+    }
+    Call {
+        registers,
+        caller,
+        written: guest.written,
+    }
 }
 
 struct Guest<'a> {
     random: &'a mut Random,
-    memory: &'a mut [u8],
     table: &'a [u8],
     sheet: &'a [u8],
+    written: Vec<(u64, Vec<u8>)>,
 }
 
 impl Guest<'_> {
-    fn prepare(&mut self) -> Call {
-        let caller = self.caller();
-        let called = match self.random.below(40) {
+    fn called(&mut self) -> u64 {
+        match self.random.below(40) {
             0 => self.random.pick(&[8, 9, 0xFFFF_FFFF, 1 << 31]),
-            1 => (1 + self.random.below(3) as u64) << 32,
+            1 => (1 + self.random.below(3) as u64) << 32 | self.random.below(9) as u64,
             2..=8 => 1,
             9..=19 => 2,
             20..=23 => 3,
@@ -43,42 +72,46 @@ impl Guest<'_> {
             35..=36 => 0,
             37 => 6,
             _ => 7,
-        };
-        let [mut rcx, mut rdx, mut r8, r9] = [(); 4].map(|()| self.random.number());
+        }
+    }
+
+    /// RCX, RDX and R8.
+    fn arguments(&mut self, caller: usize, called: u64) -> [u64; 3] {
+        let [mut rcx, rdx, r8] = [(); 3].map(|()| self.random.number());
         match called {
+            0 if self.random.once_in(6) => rcx = PAGE as u64 * self.field(caller, 12),
             0 => rcx = self.gpa(),
             1 | 4 => rcx = self.list(caller, called == 4),
-            2 => (rcx, rdx, r8) = self.new_vcpu(caller),
+            2 => return self.new_vcpu(caller),
             3 => {
                 let vmsa = self.live_field(8);
                 rcx = self.spoiled(vmsa * PAGE as u64);
             }
             5 => rcx = self.list_place(caller),
-            6 => rcx = self.random.pick(&[0, 1, 2, 1 << 32, rcx]),
+            6 => rcx = self.random.pick(&[0, 1, 2, 1 << 32, 1 << 32 | 1, rcx]),
             7 => {
                 let low = self.random.number() & 0x1F;
-                rcx = self
-                    .random
-                    .pick(&[1, 0, low, low | 1 << 12, low | 1 << 5, rcx]);
+                let choice = [1, 1 << 32 | 1, 0, low, low | 1 << 12, low | 1 << 5, rcx];
+                rcx = self.random.pick(&choice);
             }
             _ => {}
         }
-        // What stands at byte 0 of the calling page is written last.
-        let pending = match self.random.below(40) {
+        [rcx, rdx, r8]
+    }
+
+    fn pending(&mut self) -> u8 {
+        match self.random.below(40) {
             0 => 0,
             1 => self.random.byte(),
             _ => 1,
-        };
-        self.write(PAGE as u64 * self.field(caller, 12), &[pending]);
-        let exit_reason = match self.random.below(40) {
+        }
+    }
+
+    fn exit_reason(&mut self) -> u64 {
+        match self.random.below(40) {
             0 => self.random.pick(&[0, 0x402, 0x403 + (1 << 32)]),
             _ => 0x403,
-        };
-        let mut registers = [0; 48];
-        for (index, value) in [called, rcx, rdx, r8, r9, exit_reason].iter().enumerate() {
-            registers[8 * index..8 * index + 8].copy_from_slice(&value.to_le_bytes());
         }
-        Call { registers, caller }
     }
 
     /// Mostly a live record, where there is one.
@@ -104,6 +137,12 @@ impl Guest<'_> {
         self.field(record, at)
     }
 
+    /// A page that some live record names.
+    fn named_page(&mut self) -> u64 {
+        let at = self.random.pick(&[8, 12, 16]);
+        self.live_field(at)
+    }
+
     /// Four bytes of a record; 0 where the sheet has none.
     fn field(&self, record: usize, at: usize) -> u64 {
         let start = record
@@ -122,19 +161,29 @@ impl Guest<'_> {
         at.and_then(|at| self.sheet.get(at)).copied().unwrap_or(1)
     }
 
-    /// A page, mostly a plain one, mostly of that validity. Where there are groups of 512, it is mostly one beyond them, so that groups stay fit for an entry.
-    fn page(&mut self, valid: bool) -> u64 {
+    fn fits(&self, page: usize, valid: bool) -> bool {
+        let byte = self.table.get(page).copied().unwrap_or(0);
+        byte & 7 == 0 && (byte & 8 != 0) == valid
+    }
+
+    /// The first page beyond the groups of 512, where a few are, or now and then 0. Pages are mostly drawn from there, so that groups stay fit for an entry.
+    fn lowest(&mut self) -> usize {
         let n = self.table.len();
-        let groups_end = n / 512 * 512;
+        let beyond = n / 512 * 512;
+        if n - beyond < 6 || self.random.once_in(16) {
+            0
+        } else {
+            beyond
+        }
+    }
+
+    /// A page, mostly a plain one, mostly of that validity.
+    fn page(&mut self, valid: bool) -> u64 {
+        let lowest = self.lowest();
         let mut page = 0;
         for _ in 0..12 {
-            let first = match self.random.below(4) {
-                1.. if groups_end < n => groups_end,
-                _ => 0,
-            };
-            page = first + self.random.below((n - first).max(1));
-            let byte = self.table.get(page).copied().unwrap_or(0);
-            if byte & 7 == 0 && (byte & 8 != 0) == valid {
+            page = lowest + self.random.below((self.table.len() - lowest).max(1));
+            if self.fits(page, valid) {
                 break;
             }
         }
@@ -161,10 +210,11 @@ impl Guest<'_> {
         self.spoiled(page * PAGE as u64)
     }
 
-    /// A place for a list: in a plain page, or in the caller's calling page.
+    /// A place for a list: in a plain page, in the caller's calling page, or in a page that some record names.
     fn list_place(&mut self, caller: usize) -> u64 {
-        let page = match self.random.below(6) {
+        let page = match self.random.below(12) {
             0 => self.field(caller, 12),
+            1 => self.named_page(),
             _ => self.page(true),
         };
         let offset = match self.random.below(8) {
@@ -189,25 +239,49 @@ impl Guest<'_> {
             1 | 2 => self.random.below(count + 1),
             _ => 0,
         };
-        self.write(place, &(count as u16).to_le_bytes());
-        self.write(place.wrapping_add(2), &(next as u16).to_le_bytes());
-        // A long list is mostly one page again and again, so that it gets far.
-        let repeated = (count > 20 && !deposit).then(|| self.page(true) << 12 | 0b1100);
-        for index in 0..count.min(room) as u64 {
-            let entry = repeated.unwrap_or_else(|| self.entry(deposit));
-            self.write(place.wrapping_add(8 + 8 * index), &entry.to_le_bytes());
-        }
+        let head = [count as u16, next as u16].map(u16::to_le_bytes).concat();
+        self.write(place, &head);
+        let entries = if count > 20 && !self.random.once_in(4) {
+            self.long_list(place / PAGE as u64, deposit)
+        } else {
+            let drawn = (0..count.min(room)).map(|_| self.entry(deposit));
+            drawn.collect()
+        };
+        let entries = entries.iter().take(count.min(room));
+        let bytes: Vec<u8> = entries.flat_map(|entry| entry.to_le_bytes()).collect();
+        self.write(place.wrapping_add(8), &bytes);
         place
+    }
+
+    /// 511 entries of which many can be done: one page again and again, or each page that is fit.
+    fn long_list(&mut self, list_page: u64, deposit: bool) -> Vec<u64> {
+        if !deposit && self.random.once_in(2) {
+            return vec![self.page(true) << 12 | 0b1100; 511];
+        }
+        let wish = !deposit && self.random.once_in(2);
+        let lowest = self.lowest();
+        let fit = |page: &u64| *page != list_page && self.fits(*page as usize, !wish);
+        let pages = (lowest as u64..self.table.len() as u64).filter(fit);
+        let mut entries: Vec<u64> = pages
+            .map(|page| page << 12 | u64::from(wish) << 2)
+            .collect();
+        if entries.is_empty() {
+            entries.push(self.entry(deposit));
+        }
+        entries.into_iter().cycle().take(511).collect()
     }
 
     fn entry(&mut self, deposit: bool) -> u64 {
         let wish = !deposit && self.random.once_in(2);
         let groups = self.table.len() / 512;
-        let large = groups > 0 && self.random.once_in(3);
+        let large = groups > 0 && self.random.once_in(2);
+        let past = self.random.once_in(16);
         let page = if large {
-            512 * self.random.below(groups) as u64
+            512 * self.random.below(groups + usize::from(past)) as u64
+        } else if self.random.once_in(30) {
+            self.named_page()
         } else {
-            self.page(deposit || !wish)
+            self.page(!wish)
         };
         let mut entry = self.spoiled(page << 12) | u64::from(large) | u64::from(wish) << 2;
         if !deposit && self.random.once_in(4) {
@@ -220,7 +294,7 @@ impl Guest<'_> {
     }
 
     /// Two pages and an APIC ID for Create, the VMSA written.
-    fn new_vcpu(&mut self, caller: usize) -> (u64, u64, u64) {
+    fn new_vcpu(&mut self, caller: usize) -> [u64; 3] {
         let (vmsa, calling) = (self.gpa(), self.gpa());
         let mut vmpl = self.vmpl(caller);
         vmpl += self
@@ -240,20 +314,16 @@ impl Guest<'_> {
             features[self.random.below(8)] ^= 1 << self.random.below(8);
         }
         self.write(vmsa.wrapping_add(0x3B0), &features);
+        let record = self.random.below(16);
         let r8 = match self.random.below(12) {
             0 => self.live_field(4) | self.random.number() << 32,
+            1 => self.field(record, 4) | self.random.number() << 32,
             _ => self.random.number(),
         };
-        (vmsa, calling, r8)
+        [vmsa, calling, r8]
     }
 
     fn write(&mut self, gpa: u64, bytes: &[u8]) {
-        let Ok(start) = usize::try_from(gpa) else {
-            return;
-        };
-        let end = start.checked_add(bytes.len());
-        if let Some(part) = end.and_then(|end| self.memory.get_mut(start..end)) {
-            part.copy_from_slice(bytes);
-        }
+        self.written.push((gpa, bytes.to_vec()));
     }
 }

@@ -2,8 +2,12 @@
 
 #![allow(dead_code)] // Each test file takes what it needs.
 
+pub mod guest;
+pub mod seen;
+
+use model::machine::*;
 use monitor::{Launched, Outcome, Plan, Verdict};
-use trials::Random;
+use trials::{Call, Random};
 
 pub const PAGE: usize = 4096;
 
@@ -28,8 +32,8 @@ pub struct Guarded {
 type Guard = [u8; 4099];
 
 /// Guards that would be taken if they were read: beside the table, pages that are valid and permitted to all; beside the sheet, records that are live.
-const BESIDE_TABLE: Guard = [0xF8; 4099];
-const BESIDE_OTHERS: Guard = {
+pub const BESIDE_TABLE: Guard = [0xF8; 4099];
+pub const BESIDE_OTHERS: Guard = {
     let mut guard = [0; 4099];
     let mut index = 0;
     while index < guard.len() {
@@ -57,10 +61,7 @@ impl Guarded {
     /// Panics unless it holds just these bytes, and the guards are as they were.
     #[track_caller]
     pub fn is(&self, name: &str, expected: &[u8], step: &dyn Fn() -> String) {
-        let (before, rest) = self.bytes.split_at(self.guard.len());
-        let (lent, after) = rest.split_at(rest.len() - self.guard.len());
-        assert!(before == self.guard, "written before {name}, by {}", step());
-        assert!(after == self.guard, "written after {name}, by {}", step());
+        let lent = self.unspoiled(name, step);
         if lent != expected {
             let at = (0..lent.len()).find(|&at| lent[at] != expected[at]);
             let at = at.expect("the lengths are the same");
@@ -68,6 +69,16 @@ impl Guarded {
             let step = step();
             panic!("byte {at:#x} of {name} is {core:#x}, not {model:#x}, after {step}");
         }
+    }
+
+    /// What it holds. Panics unless the guards are as they were.
+    #[track_caller]
+    pub fn unspoiled(&self, name: &str, step: &dyn Fn() -> String) -> &[u8] {
+        let (before, rest) = self.bytes.split_at(self.guard.len());
+        let (lent, after) = rest.split_at(rest.len() - self.guard.len());
+        assert!(before == self.guard, "written before {name}, by {}", step());
+        assert!(after == self.guard, "written after {name}, by {}", step());
+        lent
     }
 }
 
@@ -108,6 +119,23 @@ impl Twins {
         Twins::random(&mut Random::new(n as u64), [PAGE * n, n, 512])
     }
 
+    /// Buffers of n pages with bytes at random, one of them now and then of a wrong size.
+    pub fn sized_at_random(random: &mut Random, n: usize) -> Twins {
+        let mut lengths = [PAGE * n, n, 512];
+        if random.once_in(12) {
+            let which = random.below(3);
+            lengths[which] = match random.below(6) {
+                0 => lengths[which] + 1,
+                1 => lengths[which].saturating_sub(1),
+                2 => lengths[which] + PAGE,
+                3 => lengths[which].saturating_sub(PAGE),
+                4 => random.below(2 * lengths[which] + 2),
+                _ => 0,
+            };
+        }
+        Twins::random(random, lengths)
+    }
+
     pub fn poke(&mut self, buffer: Buffer, at: usize, bytes: &[u8]) {
         let (core, model) = match buffer {
             Buffer::Memory => (self.core[0].lend(), &mut self.memory),
@@ -122,6 +150,32 @@ impl Twins {
     pub fn poke_vmsa(&mut self, page: usize, vmpl: u8, efer: u64) {
         self.poke(Buffer::Memory, PAGE * page + 0xCA, &[vmpl]);
         self.poke(Buffer::Memory, PAGE * page + 0xD0, &efer.to_le_bytes());
+    }
+
+    /// Writes bytes at random into a record, such as outcome 3 does not name. It is live, as record 0 must be, or is not live and not zeros.
+    pub fn poke_record(&mut self, random: &mut Random, record: usize, live: bool) {
+        let mut bytes = [0; RECORD];
+        random.fill(&mut bytes);
+        bytes[LIVE] = u8::from(live || record == 0);
+        bytes[RUNNING] &= 1;
+        bytes[HOLDS] &= 1;
+        if bytes[LIVE] == 1 {
+            bytes[VMPL] = 1 + random.below(3) as u8;
+            let held = bytes[HOLDS] == 1;
+            for at in [VMSA_PAGE, CALLING_PAGE, POOL_PAGE] {
+                let page = random.below(self.table.len().max(1));
+                if held || at != POOL_PAGE {
+                    put_number(&mut bytes, at, 4, page as u64);
+                }
+            }
+        }
+        self.poke(Buffer::Sheet, RECORD * record, &bytes);
+    }
+
+    /// Writes what the guest has written for a call.
+    pub fn write_for(&mut self, call: &Call) {
+        call.write_into(self.core[0].lend());
+        call.write_into(&mut self.memory);
     }
 
     #[track_caller]

@@ -1,0 +1,175 @@
+//! Rows: a call on a machine, and all that it leaves, in numbers that stand in document 01.
+
+// Codes that document 01 gives a name.
+pub const ADDRESS: u64 = 0x8000_0003;
+pub const PARAMETER: u64 = 0x8000_0005;
+pub const REQUEST: u64 = 0x8000_0006;
+
+/// Bytes and where they start.
+pub type At = (usize, &'static [u8]);
+
+/// A call and all that it leaves. What a row does not name stays as it was, but for the pending byte and RAX of a call that is handled.
+#[derive(Clone, Copy)]
+pub struct Row {
+    /// What it is about, where it can be in the words of document 01.
+    pub says: &'static str,
+    /// N. The last four pages are the monitor's, before them VMSA and calling page, as in the sixteen.
+    pub pages: usize,
+    // What is written before the call.
+    pub memory_before: &'static [At],
+    pub table_before: &'static [At],
+    pub sheet_before: &'static [At],
+    pub pending: u8,
+    pub caller: usize,
+    /// RAX, RCX, RDX and R8.
+    pub asks: [u64; 4],
+    pub exit_reason: u64,
+    pub outcome: u32,
+    pub code: u64,
+    /// RCX after the call, where it changes.
+    pub rcx: Option<u64>,
+    // What the call changes.
+    pub memory: &'static [At],
+    pub table: &'static [At],
+    pub sheet: &'static [At],
+}
+
+impl Row {
+    /// A call by record 0 that is handled, with the code 0, and changes nothing.
+    pub const fn success(says: &'static str, asks: [u64; 4]) -> Row {
+        Row {
+            says,
+            pages: 16,
+            memory_before: &[],
+            table_before: &[],
+            sheet_before: &[],
+            pending: 1,
+            caller: 0,
+            asks,
+            exit_reason: 0x403,
+            outcome: 0,
+            code: 0,
+            rcx: None,
+            memory: &[],
+            table: &[],
+            sheet: &[],
+        }
+    }
+
+    pub const fn refused(says: &'static str, asks: [u64; 4], code: u64) -> Row {
+        Row {
+            code,
+            ..Row::success(says, asks)
+        }
+    }
+
+    /// Panics unless the row holds of it on a machine just launched.
+    pub fn holds(&self, subject: &Subject) {
+        self.holds_next(subject, &mut subject.launched(self.pages));
+    }
+
+    /// Makes the call on a machine as it is, and compares the outcome and every byte.
+    fn holds_next(&self, subject: &Subject, machine: &mut Machine) {
+        put(&mut machine.memory, self.memory_before);
+        put(&mut machine.table, self.table_before);
+        put(&mut machine.sheet, self.sheet_before);
+        let calling = machine.calling_place(self.caller);
+        machine.memory[calling] = self.pending;
+        let [rax, rcx, rdx, r8] = self.asks;
+        machine.set_registers([rax, rcx, rdx, r8, 0x1234, self.exit_reason]);
+        let mut expected = machine.clone();
+        if self.outcome == 0 {
+            let rcx = self.rcx.unwrap_or(rcx);
+            expected.set_registers([self.code, rcx, rdx, r8, 0x1234, self.exit_reason]);
+            expected.memory[calling] = 0;
+        }
+        put(&mut expected.memory, self.memory);
+        put(&mut expected.table, self.table);
+        put(&mut expected.sheet, self.sheet);
+        let outcome = (subject.call)(machine, self.caller);
+        let row = format!("{} {:x?}", self.says, self.asks);
+        assert_eq!(outcome, self.outcome, "{row}");
+        assert_eq!(machine.registers, expected.registers, "{row}");
+        let differs = |at: &usize| machine.memory[*at] != expected.memory[*at];
+        let at = (0..expected.memory.len()).find(differs);
+        assert_eq!(at, None, "a byte of memory, after {row}");
+        assert_eq!(machine.table, expected.table, "{row}");
+        assert_eq!(machine.sheet, expected.sheet, "{row}");
+    }
+}
+
+/// What the rows are tried on: the core or the model.
+pub struct Subject {
+    /// Launches a machine, given V. The areas are where a row says; the APIC ID is 0x01020304.
+    pub launch: fn(&mut Machine, usize) -> u32,
+    pub call: fn(&mut Machine, usize) -> u32,
+}
+
+impl Subject {
+    /// V is 8 of sixteen pages, 1,000 of more.
+    pub fn launched(&self, pages: usize) -> Machine {
+        let mut machine = Machine::blank(pages);
+        let valid_below = if pages == 16 { 8 } else { 1000 };
+        assert_eq!((self.launch)(&mut machine, valid_below), 0);
+        machine
+    }
+
+    /// Panics unless the rows hold of it, one after the other on one machine.
+    pub fn keeps(&self, rows: &[Row]) {
+        let mut machine = self.launched(16);
+        for row in rows {
+            row.holds_next(self, &mut machine);
+        }
+    }
+}
+
+/// A machine as it is lent.
+#[derive(Clone, PartialEq)]
+pub struct Machine {
+    pub memory: Vec<u8>,
+    pub table: Vec<u8>,
+    pub sheet: Vec<u8>,
+    pub registers: Vec<u8>,
+}
+
+impl Machine {
+    /// Blank pages, but for what launch wants of the VMSA: VMPL 1, and EFER bit 12.
+    fn blank(pages: usize) -> Machine {
+        let mut memory = vec![0; 4096 * pages];
+        memory[4096 * (pages - 5) + 0xCA] = 1;
+        memory[4096 * (pages - 5) + 0xD1] = 0x10;
+        Machine {
+            memory,
+            table: vec![0; pages],
+            sheet: vec![0; 512],
+            registers: vec![0; 48],
+        }
+    }
+
+    fn set_registers(&mut self, values: [u64; 6]) {
+        self.registers = values.map(u64::to_le_bytes).concat();
+    }
+
+    /// Where the calling page of a record starts. A record has one also where it is not live.
+    fn calling_place(&self, record: usize) -> usize {
+        let page = &self.sheet[32 * record + 12..32 * record + 16];
+        4096 * u32::from_le_bytes(page.try_into().unwrap()) as usize
+    }
+}
+
+fn put(bytes: &mut [u8], parts: &[At]) {
+    for (at, part) in parts {
+        bytes[*at..at + part.len()].copy_from_slice(part);
+    }
+}
+
+/// An entry again and again.
+pub const fn repeated<const BYTES: usize>(entry: u64) -> [u8; BYTES] {
+    let mut bytes = [0; BYTES];
+    let mut at = 0;
+    while at < BYTES {
+        bytes[at] = entry.to_le_bytes()[at % 8];
+        at += 1;
+    }
+    bytes
+}
