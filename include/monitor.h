@@ -9,7 +9,8 @@
  *
  * Any lengths, numbers and bytes may be given: a wrong one has its answer. Three things are the caller's part. A pointer is fit for its length and is never
  * null, also where the length is 0; a buffer that is not const does not overlap another of the same call; and nobody else uses the buffers meanwhile.
- * Nothing outside the buffers is written, and what a function leaves is settled for every input: unless it answers 0, no byte has changed.
+ * Nothing outside the buffers is written, and what a function leaves is settled for every input. Launch, a store and a mark change no byte unless they
+ * answer 0; a call changes none if it answers 1 or 3.
  */
 #ifndef MONITOR_H
 #define MONITOR_H
@@ -74,7 +75,8 @@ uint32_t monitor_mark(uint8_t *sheet, size_t sheet_length, size_t record, uint8_
 /*
  * Carries out a call by the vCPU of a record (caller): 0 handled, 1 no call, 2 gone, 3 bad machine.
  *
- * The registers are 48 bytes, eight each, little-endian: RAX, RCX, RDX, R8, R9, and the exit reason. Where it is handled, RAX is the call's code.
+ * The registers are 48 bytes, eight each, little-endian: RAX, RCX, RDX, R8, R9, and the exit reason. Where it is handled, RAX is the call's code; a code that
+ * refuses has changed RAX, bytes 0 and 1 of the calling area and a list's index at most. Where the vCPU deleted itself (gone), the registers are as they were.
  */
 uint32_t monitor_call(uint8_t *memory, size_t memory_length,
                       uint8_t *table, size_t table_length,
