@@ -1,8 +1,8 @@
 -- "Launch."
 use Rattle.rules.specs.Words.{ℕ, _+_, _-_, Bool, cond, not, _&&_, _||_, List, [], _∷_, map, leb, ltb, eqb, replicate, records, record-size}
-use Rattle.rules.specs.Words.{between, bit, range, count}
+use Rattle.rules.specs.Words.{between, bit, range}
 use Rattle.rules.specs.Answers.{Plan, Launched, Made, OutOfRange, AreasMeet, UnfitVmsa, Answered, refuse}
-use Rattle.rules.specs.Machine.{Lent, Machine, N, page-at, write, zeros, valid, laid-out, vmsa-vmpl, vmsa-features, efer}
+use Rattle.rules.specs.Machine.{Lent, Machine, N, page-at, write, zeros, laid-out, vmsa-vmpl, vmsa-features, efer}
 
 unfoldable pub in-monitor : Plan → ℕ → Bool
 in-monitor plan p = leb (plan .first) p && ltb p (plan .first + plan .count)

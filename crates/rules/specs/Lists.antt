@@ -1,12 +1,12 @@
 -- "1 Pvalidate, 4 Deposit", and the list page that Withdraw shares with them.
 use Rattle.rules.specs.Words.{ℕ, zero, suc, _+_, _-_, _*_, min, Bool, cond, not, _&&_, _||_, List, leb, ltb, eqb, page-size, large, multiple}
-use Rattle.rules.specs.Words.{bits, bit, little, number, range, every, count, each}
+use Rattle.rules.specs.Words.{bits, bit, little, number, range, every, each}
 use Rattle.rules.specs.Answers.{Code, Success, Incomplete, Address, Parameter, SizeMismatch, NoChange, Entry, Reads, Unread, ListCall}
 use Rattle.rules.specs.Answers.{Pvalidate, Deposit, Wish, Invalid, Valid, Pool, Answered, refuse}
 use Rattle.rules.specs.Machine.{Lent, _▷_, below, page-of, offset-of, page-at, write, fill, plain, calling-area, pool-free, valid, grant}
 use Rattle.rules.specs.Machine.{revoke, own, make-valid, make-invalid, table-byte, put, owned-by, usable, vcpu}
 
--- "List page not below N, not valid, neither plain nor calling, or calling with page offset 0"
+-- "List page not below N, not valid, neither plain nor calling, or calling with page offset 0", whatever the caller's VMPL
 unfoldable pub bad-list-page : ℕ → ℕ → Lent → Bool
 bad-list-page vmpl rcx m =
     let p : ℕ = page-of rcx in
@@ -56,7 +56,7 @@ unfoldable pub malformed : ListCall → ℕ → Bool
 malformed call e =
     ltb 1 (bits 1 0 e) || not (eqb (reserved-bits call e) 0) || eqb (bits 1 0 e) 1 && not (multiple large (entry-first e))
 
--- "Any covered page not below N, not plain, or holding this list"
+-- "Any covered page not below N, not plain, or holding this list", whoever calls
 unfoldable pub coverable : ℕ → ℕ → Lent → ℕ → Bool
 coverable caller rcx m p = below m p && owned-by plain m p && not (eqb p (page-of rcx))
 
@@ -97,11 +97,11 @@ unfoldable pub carry-out : Wish → ℕ → ℕ → Lent → Lent
 carry-out wish vmpl p m = m ▷ cleared wish p ▷ put p (wished wish vmpl (table-byte m p))
 
 unfoldable pub carry-out-all : Wish → ℕ → ℕ → ℕ → Lent → Lent
-carry-out-all wish vmpl first count m = each (carry-out wish vmpl) (range first count) m
+carry-out-all wish vmpl first pages m = each (carry-out wish vmpl) (range first pages) m
 
 -- entry k carried out, and the run goes on; or refused: "its index is then stored, earlier entries stand"
 unfoldable pub after-entry : Entry → ℕ → ℕ → ℕ → (Lent → Answered Code Lent) → Lent → Answered Code Lent
-after-entry (Reads first count wish) caller rcx k go-on m = go-on (carry-out-all wish (vcpu m caller .vmpl) first count m)
+after-entry (Reads first pages wish) caller rcx k go-on m = go-on (carry-out-all wish (vcpu m caller .vmpl) first pages m)
 after-entry (Unread code) caller rcx k go-on m = record { answer = code; after = store-index k rcx m }
 
 -- `todo` entries from index k on. "If all is well the new index is stored; the code is incomplete if entries remain, else success"

@@ -42,7 +42,8 @@ unfoldable pub pages-listed : ℕ → Lent → List ℕ → ℕ
 pages-listed rcx m [] = 0
 pages-listed rcx m (k ∷ ks) = entry-pages (list-entry k rcx m) + pages-listed rcx m ks
 
--- ""Taken in" counts the pages of Deposit entries that the index passed": from the index before to the index after, read on entry
+-- ""Taken in" counts the pages of Deposit entries that the index passed": from the index before to the index after, read on entry. Where the call was refused
+-- before its list was looked at, the index is as it was: the last writes are in bytes 0 and 1 of a page, the index in bytes 2 and 3 of a multiple of 8
 unfoldable pub taken-in : Step → Machine → ℕ
 taken-in (calls caller g) m =
     let from : ℕ = list-next (g .rcx) (m .lent) in
@@ -53,7 +54,7 @@ taken-in (calls caller g) m =
 taken-in (stores c p offset bytes) m = 0
 taken-in (marks i value) m = 0
 
--- ""given back" the counts that Withdraw wrote": the two bytes at RCX on exit, for code 0
+-- ""given back" the counts that Withdraw wrote": the two bytes at RCX on exit, for code 0; in a sound machine the last writes do not touch them
 unfoldable pub given-back : Step → Machine → ℕ
 given-back (calls caller g) m =
     let s : Posed Registers Machine = called caller g m .after in

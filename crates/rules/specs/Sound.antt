@@ -5,13 +5,13 @@ use Rattle.rules.specs.Answers.{Vcpu}
 use Rattle.rules.specs.Machine.{Lent, N, owner, plain, calling-area, monitor, pool-free, pool-in-use, vmsa-area, valid, permitted, table-byte}
 use Rattle.rules.specs.Machine.{fields, is-live, holds, needs-page, record-at, vcpu, startup}
 
--- what outcome 3 names in a record: "a live, running or holding byte above 1; a live record with VMPL outside 1 to 3 or a page (the pool
--- page if held) at or above N"
+-- what outcome 3 names in a live record: "VMPL outside 1 to 3 or a page (the pool page if held) at or above N"
 unfoldable pub bad-names : ℕ → List ℕ → Bool
 bad-names n r =
     let v : Vcpu = fields r in
     not (between 1 3 (v .vmpl)) || leb n (v .vmsa) || leb n (v .calling) || holds r && leb n (v .pool)
 
+-- and in any: "a live, running or holding byte above 1; a live record with .."
 unfoldable pub bad-record : ℕ → List ℕ → Bool
 bad-record n r = ltb 1 (fields r .live) || ltb 1 (fields r .running) || ltb 1 (fields r .holding) || is-live r && bad-names n r
 

@@ -14,9 +14,10 @@ store c p offset bytes m =
     refuse m (not (may-store c p offset (length bytes) m)) Refused
     (record { answer = Done; after = write p offset bytes m })
 
--- "A run or stop mark sets byte +2 of a live record (byte +0 is 1) to 1 or 0"
+-- "A run or stop mark sets byte +2 of a live record (byte +0 is 1) to 1 or 0": of the sheet's sixteen, and to nothing else
 unfoldable pub may-mark : ℕ → ℕ → Lent → Bool
 may-mark i value m = ltb i records && leb value 1 && is-live (record-at m i)
 
+-- "Otherwise .. refused without change"
 unfoldable pub mark : ℕ → ℕ → Lent → Answered Verdict Lent
 mark i value m = refuse m (not (may-mark i value m)) Refused (record { answer = Done; after = amend (λ r. set r 2 value) i m })
