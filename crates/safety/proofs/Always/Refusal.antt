@@ -1,0 +1,233 @@
+-- Statement 8, refused: registers but RAX and the sheet are as they were, and the last writes are applied to the machine on entry or, for a list refused
+-- at an entry, to the machine after the run up to there.
+use mathlib.Core.Path.{_≡_, refl, sym, _∙_, ap}
+use mathlib.Core.Logic.{_⊎_, inl, inr}
+use mathlib.Core.Bool.{Bool, true, not, _&&_, true≢false}
+use Prim.Native.Nat.{ℕ, zero, suc, _+_, _-_, _<_, _≤_, min}
+use native.Mathlib.Omega.{arith}
+use lib.Dec.{eqb, ltb}
+use Rattle.rules.specs.declared.Registers.{Registers}
+use Rattle.rules.specs.declared.Code.{Code}
+use Rattle.rules.specs.declared.Code.the-variants.{Success}
+use Rattle.rules.specs.declared.Outcome.the-variants.{Handled, NoCall, Gone, BadMachine}
+use Rattle.rules.specs.declared.Entry.{Entry}
+use Rattle.rules.specs.declared.Entry.the-variants.{Reads, Unread}
+use Rattle.rules.specs.declared.ListCall.{ListCall}
+use Rattle.rules.specs.declared.ListCall.the-variants.{Pvalidate, Deposit}
+use Rattle.rules.specs.Answers.{Answered, refuse, code-number, outcome-number}
+use Rattle.rules.specs.Words.{entries-a-call}
+use Rattle.rules.specs.Machine.{Lent, Machine, with-lent, with-memory, write, is-live, record-at, vcpu}
+use Rattle.rules.specs.Lists.{list-count, list-next, list-entry, read-entry, carry-out-all, after-entry, run, run-within, list-call}
+use Rattle.rules.specs.Calls.{remap, create, delete, withdraw, configure, vtom}
+use Rattle.rules.specs.Call.{Posed, with-rax, with-rcx, bad-machine, no-call, call-number, on-lent, on-rcx, handle, clear-pending, set-flag, finish, call}
+use Rattle.rules.specs.Runs.{called}
+use Rattle.laws.proofs.Ranges.{by-test}
+use Rattle.safety.specs.Statements.{refused, last-writes, number-of-list-call, At-entry, Left-by-refusal, Refusal-leaves}
+use Rattle.safety.proofs.Branches.{on-test, on-refuse, never, on-handle, run-within-sheet}
+
+-- a code that refuses
+unfoldable refuses : Code → Bool
+refuses c = not (eqb (code-number c) 0) && not (eqb (code-number c) 0x80000000)
+
+-- ---- the run over a list
+
+-- a run that is refused stopped at an entry, and left what the run up to there leaves
+record Stopped (call : ListCall) (caller rcx todo k : ℕ) (m after : Lent) : Type 0 where
+  entry : ℕ
+  from : k ≤ entry
+  below : entry < k + todo
+  reached : after ≡ run call caller rcx (entry - k) k m .after
+
+stopped-later : (e : Entry) (call : ListCall) (caller rcx todo k : ℕ) (m : Lent) → read-entry call caller rcx (list-entry k rcx m) m ≡ e
+    → ((now : Lent) → refuses (run call caller rcx todo (suc k) now .answer) ≡ true
+    → Stopped call caller rcx todo (suc k) now (run call caller rcx todo (suc k) now .after))
+    → refuses (after-entry e caller rcx k (run call caller rcx todo (suc k)) m .answer) ≡ true
+    → Stopped call caller rcx (suc todo) k m (after-entry e caller rcx k (run call caller rcx todo (suc k)) m .after)
+unfolding run after-entry
+stopped-later (Reads first n wish) call caller rcx todo k m e later h =
+    let now : Lent = carry-out-all wish (vcpu m caller .vmpl) first n m in
+    let s = later now h in
+    let same : s .entry - k ≡ suc (s .entry - suc k) = omega arith in
+    record { entry = s .entry; from = omega arith; below = omega arith; reached = s .reached ∙ rw (same, e) }
+stopped-later (Unread code) call caller rcx todo k m e later h =
+    let none : k - k ≡ 0 = omega arith in
+    record { entry = k; from = omega arith; below = omega arith; reached = rw none }
+
+run-stopped : (call : ListCall) (caller rcx todo k : ℕ) (m : Lent) → refuses (run call caller rcx todo k m .answer) ≡ true
+    → Stopped call caller rcx todo k m (run call caller rcx todo k m .after)
+unfolding run refuses code-number
+run-stopped call caller rcx zero k m h =
+    by-test (ltb k (list-count rcx m)) (λ t. absurd (true≢false (sym (rw t at h)))) (λ t. absurd (true≢false (sym (rw t at h))))
+run-stopped call caller rcx (suc todo) k m h =
+    stopped-later (read-entry call caller rcx (list-entry k rcx m) m) call caller rcx todo k m refl (run-stopped call caller rcx todo (suc k)) h
+
+-- ---- each call, before the last writes
+
+-- the machine as it was, or as the run up to the refused entry left it
+record Ran (call : ListCall) (caller rcx : ℕ) (m after : Lent) : Type 0 where
+  entry : ℕ
+  from : list-next rcx m ≤ entry
+  below : entry < list-count rcx m
+  reached : after ≡ run-within (entry - list-next rcx m) call caller rcx m .after
+
+within-stopped : (budget : ℕ) (call : ListCall) (caller rcx : ℕ) (m : Lent) → refuses (run-within budget call caller rcx m .answer) ≡ true
+    → Ran call caller rcx m (run-within budget call caller rcx m .after)
+unfolding run-within
+within-stopped budget call caller rcx m h =
+    let next = list-next rcx m in
+    let count = list-count rcx m in
+    let s = run-stopped call caller rcx (min budget (count - next)) next m h in
+    let same : min (s .entry - next) (count - next) ≡ s .entry - next = omega arith in
+    record { entry = s .entry; from = s .from; below = omega arith; reached = rw same (s .reached) }
+
+succeeds : {A : Type 0} → refuses Success ≡ true → A
+unfolding refuses code-number
+succeeds h = absurd (true≢false (sym h))
+
+-- a refusal leaves what was there
+abbrev Unmoved : {B : Type 0} → B → Answered Code B → Type 0
+Unmoved now a = refuses (a .answer) ≡ true → a .after ≡ now
+
+vtom-unmoved : (rcx : ℕ) → Unmoved rcx (vtom rcx)
+unfolding vtom configure
+vtom-unmoved rcx =
+    on-refuse (Unmoved rcx) rcx _ _ _ (λ t h. refl) (λ t.
+    on-test (Unmoved rcx) (eqb rcx 1) (record { answer = Success; after = 0 }) (configure rcx) (λ u. succeeds) (λ u.
+    on-refuse (Unmoved rcx) rcx _ _ _ (λ v h. refl) (λ v h. refl)))
+
+module _ (m : Lent) where
+  remap-unmoved : (caller rcx : ℕ) → Unmoved m (remap caller rcx m)
+  unfolding remap
+  remap-unmoved caller rcx = on-refuse (Unmoved m) m _ _ _ (λ t h. refl) (λ t. on-refuse (Unmoved m) m _ _ _ (λ t h. refl) (λ t. succeeds))
+
+  create-unmoved : (caller rcx rdx r8 : ℕ) → Unmoved m (create caller rcx rdx r8 m)
+  unfolding create
+  create-unmoved caller rcx rdx r8 =
+      on-refuse (Unmoved m) m _ _ _ (λ t h. refl) (λ t.
+      on-refuse (Unmoved m) m _ _ _ (λ t h. refl) (λ t.
+      on-refuse (Unmoved m) m _ _ _ (λ t h. refl) (λ t.
+      on-refuse (Unmoved m) m _ _ _ (λ t h. refl) (λ t.
+      on-refuse (Unmoved m) m _ _ _ (λ t h. refl) (λ t. succeeds)))))
+
+  delete-unmoved : (caller rcx : ℕ) → Unmoved m (delete caller rcx m)
+  unfolding delete
+  delete-unmoved caller rcx = on-refuse (Unmoved m) m _ _ _ (λ t h. refl) (λ t. on-refuse (Unmoved m) m _ _ _ (λ t h. refl) (λ t. succeeds))
+
+  withdraw-unmoved : (caller rcx : ℕ) → Unmoved m (withdraw caller rcx m)
+  unfolding withdraw
+  withdraw-unmoved caller rcx = on-refuse (Unmoved m) m _ _ _ (λ t h. refl) (λ t. on-refuse (Unmoved m) m _ _ _ (λ t h. refl) (λ t. succeeds))
+
+  list-moved : (budget : ℕ) (call : ListCall) (caller rcx : ℕ) → refuses (list-call budget call caller rcx m .answer) ≡ true
+      → (list-call budget call caller rcx m .after ≡ m) ⊎ Ran call caller rcx m (list-call budget call caller rcx m .after)
+  unfolding list-call
+  list-moved budget call caller rcx =
+      let Moved : Answered Code Lent → Type 0 = λ a. refuses (a .answer) ≡ true → (a .after ≡ m) ⊎ Ran call caller rcx m (a .after) in
+      on-refuse Moved m _ _ _ (λ t h. inl refl) (λ t.
+      on-refuse Moved m _ _ _ (λ t h. inl refl) (λ t.
+      on-refuse Moved m _ _ _ (λ t h. inl refl) (λ t.
+      on-refuse Moved m _ _ _ (λ t h. inl refl) (λ t h. inr (within-stopped budget call caller rcx m h)))))
+
+-- what a refused call left before the last writes
+record Entered (caller : ℕ) (g : Registers) (m after : Lent) : Type 0 where
+  call : ListCall
+  asked : call-number g ≡ number-of-list-call call
+  ran : Ran call caller (g .rcx) m after
+
+record Left (caller : ℕ) (g : Registers) (m : Lent) (after : Posed Registers Machine) : Type 0 where
+  registers : after .registers ≡ g
+  lent : (after .machine .lent ≡ m) ⊎ Entered caller g m (after .machine .lent)
+
+module _ (caller : ℕ) (g : Registers) (m : Machine) where
+  abbrev posed : Posed Registers Machine
+  posed = record { registers = g; machine = m }
+
+  abbrev Leaves : Answered Code (Posed Registers Machine) → Type 0
+  Leaves a = refuses (a .answer) ≡ true → Left caller g (m .lent) (a .after)
+
+  same : Left caller g (m .lent) posed
+  same = record { registers = refl; lent = inl refl }
+
+  on-lent-leaves : (a : Answered Code Lent) → Unmoved (m .lent) a → Leaves (on-lent a posed)
+  unfolding on-lent with-lent
+  on-lent-leaves a unmoved h = record { registers = refl; lent = inl (unmoved h) }
+
+  on-list-leaves : (call : ListCall) → call-number g ≡ number-of-list-call call
+      → Leaves (on-lent (list-call entries-a-call call caller (g .rcx) (m .lent)) posed)
+  unfolding on-lent with-lent
+  on-list-leaves call asked h = record { registers = refl; lent = entered (list-moved (m .lent) entries-a-call call caller (g .rcx) h) }
+    where
+      entered : {after : Lent} → (after ≡ m .lent) ⊎ Ran call caller (g .rcx) (m .lent) after
+          → (after ≡ m .lent) ⊎ Entered caller g (m .lent) after
+      entered (inl e) = inl e
+      entered (inr r) = inr (record { call = call; asked = asked; ran = r })
+
+  on-rcx-leaves : (a : Answered Code ℕ) → Unmoved (g .rcx) a → Leaves (on-rcx a posed)
+  unfolding on-rcx with-rcx
+  on-rcx-leaves a unmoved h = record { registers = rw (unmoved h); lent = inl refl }
+
+  handle-leaves : Leaves (handle caller posed)
+  unfolding number-of-list-call
+  handle-leaves =
+      on-handle caller posed Leaves
+      (record {
+        bad-pending = λ h. same;
+        unknown-protocol = λ h. same;
+        remaps = on-lent-leaves _ (remap-unmoved (m .lent) caller (g .rcx));
+        validates = λ e. on-list-leaves Pvalidate (e .number);
+        creates = on-lent-leaves _ (create-unmoved (m .lent) caller (g .rcx) (g .rdx) (g .r8));
+        deletes = λ e. on-lent-leaves _ (delete-unmoved (m .lent) caller (g .rcx));
+        deposits = λ e. on-list-leaves Deposit (e .number);
+        withdraws = λ e. on-lent-leaves _ (withdraw-unmoved (m .lent) caller (g .rcx));
+        queries = on-rcx-leaves _ succeeds;
+        configures = on-rcx-leaves _ (vtom-unmoved (g .rcx));
+        unknown-call = λ h. same;
+      })
+
+-- ---- the last writes
+
+last-writes-sheet : (caller : ℕ) (m : Lent) → last-writes caller m .sheet ≡ m .sheet
+unfolding last-writes set-flag clear-pending write with-memory
+last-writes-sheet caller m = refl
+
+left-sheet : (caller : ℕ) (g : Registers) (m after : Lent) → (after ≡ m) ⊎ Entered caller g m after → after .sheet ≡ m .sheet
+left-sheet caller g m after (inl e) = ap (λ now. now .sheet) e
+left-sheet caller g m after (inr e) =
+    ap (λ now. now .sheet) (e .ran .reached) ∙ run-within-sheet (e .ran .entry - list-next (g .rcx) m) (e .call) caller (g .rcx) m
+
+left-lent : (caller : ℕ) (g : Registers) (m after : Lent) → (after ≡ m) ⊎ Entered caller g m after
+    → (last-writes caller after ≡ last-writes caller m) ⊎ At-entry caller g m (last-writes caller after)
+left-lent caller g m after (inl e) = inl (ap (last-writes caller) e)
+left-lent caller g m after (inr e) =
+    inr (record {
+      call = e .call;
+      asked = e .asked;
+      entry = e .ran .entry;
+      from = e .ran .from;
+      below = e .ran .below;
+      reached = ap (last-writes caller) (e .ran .reached);
+    })
+
+-- a call that ends as handled, and refused
+ended : (caller : ℕ) (g : Registers) (m : Lent) (a : Answered Code (Posed Registers Machine))
+    → (refuses (a .answer) ≡ true → Left caller g m (a .after)) → finish caller g a .answer ≡ Handled
+    → refused (finish caller g a .after .registers) ≡ true → Left-by-refusal caller g m (finish caller g a .after)
+unfolding finish with-lent with-rax outcome-number refused refuses last-writes
+ended caller g m a leaves handled h =
+    by-test (is-live (record-at (a .after .machine .lent) caller))
+    (λ t. let l = leaves (rw t at h) in
+    rw t (record {
+      registers = rw (l .registers);
+      sheet = last-writes-sheet caller (a .after .machine .lent) ∙ left-sheet caller g m (a .after .machine .lent) (l .lent);
+      lent = left-lent caller g m (a .after .machine .lent) (l .lent);
+    }))
+    (λ t. never Gone Handled refl (rw t at handled))
+
+-- what a refused call leaves
+pub refusal-leaves : Refusal-leaves
+unfolding Refusal-leaves called call refuse outcome-number
+refusal-leaves caller g m handled h =
+    by-test (bad-machine caller (m .lent))
+    (λ t. never BadMachine Handled refl (rw t at handled))
+    (λ t. by-test (no-call caller g (m .lent))
+    (λ u. never NoCall Handled refl (rw (t, u) at handled))
+    (λ u. rw (t, u) (ended caller g (m .lent) _ (handle-leaves caller g m) (rw (t, u) at handled) (rw (t, u) at h))))

@@ -1,0 +1,122 @@
+-- Statement 9, no second validation: an entry that validates covered no valid page; if it covers one it is refused; and what it validates is zero.
+use mathlib.Core.Path.{_≡_, refl, sym}
+use mathlib.Core.Bool.{Bool, true, cond, not, _&&_, true≢false}
+use mathlib.Core.List.{List, [], _∷_}
+use Prim.Native.Nat.{ℕ}
+use native.Mathlib.Omega.{arith}
+use lib.Dec.{eqb, ltb}
+use lib.ListN.{length, getD, set, List·getD-eq-default}
+use lib.Seq.{getD-set-same, getD-set-other, set-out}
+use borrow.Author.Tests.{ltb-true, ltb-false, eqb-true, eqb-false}
+use Rattle.rules.specs.declared.Code.{Code}
+use Rattle.rules.specs.declared.Wish.{Wish}
+use Rattle.rules.specs.declared.Wish.the-variants.{Valid}
+use Rattle.rules.specs.declared.Entry.the-variants.{Reads, Unread}
+use Rattle.rules.specs.declared.ListCall.the-variants.{Pvalidate}
+use Rattle.rules.specs.Words.{page-size, bit, range, every, exists, each}
+use Rattle.rules.specs.Machine.{Lent, page-at, with-memory, zeros, fill, put, table-byte, valid, vcpu}
+use Rattle.rules.specs.Lists.{entry-first, entry-pages, covered, malformed, coverable, read-covered, read-entry}
+use Rattle.rules.specs.Lists.{cleared, carry-out, carry-out-all, after-entry}
+use Rattle.laws.proofs.Ranges.{by-test}
+use Rattle.laws.proofs.Numbers.{zeros-at}
+use Rattle.safety.specs.Statements.{covers-valid, second-code, Validated-once, Second-validation-refused, Validated-pages-zero}
+
+-- each fails where none passes
+every-not-exists : {A : Type 0} (test : A → Bool) (xs : List A) → every (λ x. not (test x)) xs ≡ not (exists test xs)
+unfolding every exists
+every-not-exists test [] = refl
+every-not-exists test (x ∷ xs) = by-test (test x) (λ t. rw t) (λ t. rw t (every-not-exists test xs))
+
+never : {A : Type 0} (code : Code) (first n : ℕ) (wish : Wish) → Unread code ≡ Reads first n wish → A
+never code first n wish e = let z : _≡_ {A = ℕ} 0 1 = cc in absurd (omega arith)
+
+-- a Pvalidate entry that reads passed the tests of its form and of its pages
+covered-read : (caller rcx e first n : ℕ) (wish : Wish) (m : Lent) → read-entry Pvalidate caller rcx e m ≡ Reads first n wish
+    → read-covered Pvalidate caller e m ≡ Reads first n wish
+unfolding read-entry
+covered-read caller rcx e first n wish m h =
+    by-test (malformed Pvalidate e)
+    (λ t. never _ first n wish (rw t at h))
+    (λ t. by-test (every (coverable caller rcx m) (covered e))
+    (λ u. rw u at (rw t at h))
+    (λ u. never _ first n wish (rw u at (rw t at h))))
+
+-- its pages are those that it covers
+range-read : (caller e first n : ℕ) (wish : Wish) (m : Lent) → read-covered Pvalidate caller e m ≡ Reads first n wish
+    → (entry-first e ≡ first) × (entry-pages e ≡ n)
+unfolding read-covered
+range-read caller e first n wish m h =
+    let all = every (λ p. valid (table-byte m p)) (covered e) in
+    let none = every (λ p. not (valid (table-byte m p))) (covered e) in
+    by-test (not all && not none)
+    (λ t. never _ first n wish (rw t at h))
+    (λ t. by-test (cond (bit 2 e) all none && not (bit 3 e))
+    (λ u. never _ first n wish (rw u at (rw t at h)))
+    (λ u. let g = rw u at (rw t at h) in (cc, cc)))
+
+-- (a) an entry that validates covered no valid page
+pub validated-once : Validated-once
+unfolding Validated-once covers-valid read-covered
+validated-once caller rcx e first n m two three h =
+    let all = every (λ p. valid (table-byte m p)) (covered e) in
+    let some = exists (λ p. valid (table-byte m p)) (covered e) in
+    let g = rw (two, three, every-not-exists (λ p. valid (table-byte m p)) (covered e)) at (covered-read caller rcx e first n Valid m h) in
+    by-test some
+    (λ t. by-test all (λ u. never _ first n Valid (rw (t, u) at g)) (λ u. never _ first n Valid (rw (t, u) at g)))
+    (λ t. t)
+
+-- (b) an entry that would validate a valid page is refused
+pub second-validation-refused : Second-validation-refused
+unfolding Second-validation-refused covers-valid second-code read-entry read-covered after-entry
+second-validation-refused caller rcx e k go-on m two three some =
+    let all = every (λ p. valid (table-byte m p)) (covered e) in
+    by-test (malformed Pvalidate e)
+    (λ t. rw t)
+    (λ t. by-test (every (coverable caller rcx m) (covered e))
+    (λ u. by-test all
+    (λ v. rw (t, u, v, two, three))
+    (λ v. rw (t, u, every-not-exists (λ p. valid (table-byte m p)) (covered e), v, some)))
+    (λ u. rw (t, u)))
+
+-- a page is zero
+Zero : ℕ → List (List ℕ) → Type 0
+Zero p pages = (k : ℕ) → getD (getD pages p []) k 0 ≡ 0
+
+-- a page filled with zeros is, and so it stays
+filled : (p : ℕ) (pages : List (List ℕ)) → Zero p (set pages p (zeros page-size))
+unfolding Zero
+filled p pages k =
+    by-test (ltb p (length pages))
+    (λ t. rw (getD-set-same pages p (zeros page-size) [] (ltb-true p (length pages) t)) (zeros-at page-size k))
+    (λ t. let out = ltb-false p (length pages) t in rw (set-out pages p (zeros page-size) out, List·getD-eq-default pages [] out))
+
+still : (p q : ℕ) (pages : List (List ℕ)) → Zero p pages → Zero p (set pages q (zeros page-size))
+unfolding Zero
+still p q pages z =
+    by-test (eqb p q)
+    (λ t. rw (← eqb-true p q t) (filled p pages))
+    (λ t k. rw (getD-set-other pages q p (zeros page-size) [] (eqb-false p q t)) (z k))
+
+carried : (vmpl p : ℕ) (m : Lent) → carry-out Valid vmpl p m .memory ≡ set (m .memory) p (zeros page-size)
+unfolding carry-out cleared fill put with-memory
+carried vmpl p m = refl
+
+all-still : (vmpl p : ℕ) (qs : List ℕ) (m : Lent) → Zero p (m .memory) → Zero p (each (carry-out Valid vmpl) qs m .memory)
+unfolding each
+all-still vmpl p [] m z = z
+all-still vmpl p (q ∷ qs) m z = all-still vmpl p qs (carry-out Valid vmpl q m) (rw carried (still p q (m .memory) z))
+
+all-filled : (vmpl p : ℕ) (qs : List ℕ) (m : Lent) → exists (eqb p) qs ≡ true → Zero p (each (carry-out Valid vmpl) qs m .memory)
+unfolding each exists
+all-filled vmpl p [] m h = absurd (true≢false (sym h))
+all-filled vmpl p (q ∷ qs) m h =
+    by-test (eqb p q)
+    (λ t. all-still vmpl p qs (carry-out Valid vmpl q m) (rw (carried, ← eqb-true p q t) (filled p (m .memory))))
+    (λ t. all-filled vmpl p qs (carry-out Valid vmpl q m) (rw t at h))
+
+-- (c) the pages that an entry validates are zero
+pub validated-pages-zero : Validated-pages-zero
+unfolding Validated-pages-zero page-at carry-out-all covered Zero
+validated-pages-zero caller rcx e first n m h p k x =
+    let both = range-read caller e first n Valid m (covered-read caller rcx e first n Valid m h) in
+    rw (← both .0, ← both .1) (all-filled (vcpu m caller .vmpl) p (range (entry-first e) (entry-pages e)) m x k)

@@ -1,0 +1,196 @@
+-- On the lent bytes: from buffers that are a sound machine, each step on bytes is the step on the machine that they are.
+use mathlib.Core.Path.{_≡_, refl, sym, _∙_, ap}
+use mathlib.Core.Bool.{Bool, true, false, not, _&&_, and-eq-true-iff}
+use mathlib.Core.List.{List, [], _∷_}
+use Prim.Native.Nat.{ℕ, _*_, _/_, _<_}
+use native.Mathlib.Omega.{arith}
+use native.Mathlib.Nat.{mul-suc}
+use lib.Dec.{eqb, lit<}
+use lib.ListN.{length, getD, length-append}
+use borrow.Author.Tests.{eqb-true, eq-eqb}
+use Rattle.rules.specs.Words.{page-size, least-pages, most-pages, records, record-size, between, every}
+use Rattle.rules.specs.declared.Plan.{Plan}
+use Rattle.rules.specs.declared.Registers.{Registers}
+use Rattle.rules.specs.declared.Launched.the-variants.{Made, WrongSize}
+use Rattle.rules.specs.Answers.{Answered, refuse, launched-number}
+use Rattle.rules.specs.Machine.{Lent, Machine, with-lent, N, below, with-memory, write, table-byte, record-at, amend}
+use Rattle.rules.specs.Launch.{launch}
+use Rattle.rules.specs.Steps.{may-store, store, may-mark, mark}
+use Rattle.rules.specs.Sound.{table-sized, pages-sized, sound}
+use Rattle.rules.specs.Flat.{Buffers, parts, join, parted, joined, memory-fits, memory-sized, sheet-sized, well-sized, sound-bytes}
+use Rattle.rules.specs.Flat.{launch-bytes, store-bytes, mark-bytes, call-bytes}
+use Rattle.rules.specs.Runs.{Step, calls, stores, marks, called, step, run-steps}
+use Rattle.laws.proofs.Ranges.{by-test, every→, →every}
+use Rattle.laws.proofs.Chop.{chop-join}
+use Rattle.laws.proofs.Parts.{parts-chop, length-parts, length-row}
+use Rattle.laws.proofs.FlatSteps.{sizes, join-memory, join-sheet, length-pages, sized-sheet}
+use Rattle.safety.proofs.Sound.Facts.{open-sound}
+use Rattle.safety.specs.Statements.{step-bytes, run-bytes, Launched-sound, Stays-sound, Launched-on-bytes, Runs-on-bytes}
+
+-- ---- parts of one size, joined
+
+module _ (size : ℕ) (pos : 0 < size) where
+  length-join : (rows : List (List ℕ)) → every (λ r. eqb (length r) size) rows ≡ true → length (join rows) ≡ size * length rows
+  unfolding join every
+  length-join [] e = omega arith
+  length-join (r ∷ rows) e =
+      let both = and-eq-true-iff (eqb (length r) size) (every (λ r. eqb (length r) size) rows) .0 e in
+      length-append r (join rows) ∙ omega (arith, eqb-true (length r) size (both .0), length-join rows (both .1), mul-suc size (length rows))
+
+  parts-join : (rows : List (List ℕ)) → every (λ r. eqb (length r) size) rows ≡ true → parts size (join rows) ≡ rows
+  parts-join rows e =
+      parts-chop (length rows) size (join rows) pos (length-join rows e)
+      ∙ chop-join size rows (λ p h. eqb-true (length (getD rows p [])) size (every→ (λ r. eqb (length r) size) rows p [] e h))
+
+-- what the sizes of a machine say
+record Sized (m : Lent) : Type 0 where
+  range : between least-pages most-pages (N m) ≡ true
+  rows : length (m .sheet) ≡ records
+  row : every (λ r. eqb (length r) record-size) (m .sheet) ≡ true
+  pages : length (m .memory) ≡ N m
+  page : every (λ r. eqb (length r) page-size) (m .memory) ≡ true
+
+sized : (m : Lent) → table-sized m ≡ true → pages-sized m ≡ true → Sized m
+unfolding table-sized pages-sized
+sized m t p =
+    let r = between least-pages most-pages (N m) in
+    let outer = and-eq-true-iff (r && eqb (length (m .sheet)) records) (every (λ r. eqb (length r) record-size) (m .sheet)) .0 t in
+    let inner = and-eq-true-iff r (eqb (length (m .sheet)) records) .0 (outer .0) in
+    let memory = and-eq-true-iff (eqb (length (m .memory)) (N m)) (every (λ r. eqb (length r) page-size) (m .memory)) .0 p in
+    record { range = inner .0; rows = eqb-true _ _ (inner .1); row = outer .1; pages = eqb-true _ _ (memory .0); page = memory .1 }
+
+module _ (m : Lent) (s : Sized m) where
+  parted-joined : parted (joined m) ≡ m
+  unfolding parted joined page-size record-size
+  parted-joined =
+      λ i. record {
+        memory = parts-join page-size (lit< tt) (m .memory) (s .page) i;
+        table = m .table;
+        sheet = parts-join record-size (lit< tt) (m .sheet) (s .row) i;
+      }
+
+  joined-sized : well-sized (joined m) ≡ true
+  unfolding well-sized memory-sized memory-fits sheet-sized joined page-size record-size N
+  joined-sized =
+      rw (
+        s .range,
+        eq-eqb _ _ (length-join page-size (lit< tt) (m .memory) (s .page) ∙ ap (λ n. page-size * n) (s .pages)),
+        eq-eqb _ _ (length-join record-size (lit< tt) (m .sheet) (s .row) ∙ ap (λ n. record-size * n) (s .rows)),
+      )
+
+-- ---- a sound machine and its bytes
+
+sizes-of : (m : Lent) → sound m ≡ true → Sized m
+sizes-of m e = let s = open-sound m e in sized m (s .tables) (s .memories)
+
+-- a sound machine, joined
+sound-joined : (m : Lent) → sound m ≡ true → sound-bytes (joined m) ≡ true
+unfolding sound-bytes
+sound-joined m e = rw (joined-sized m (sizes-of m e), parted-joined m (sizes-of m e), e)
+
+-- a store leaves table and sheet, a mark memory and table
+store-leaves : (c p offset : ℕ) (bytes : List ℕ) (m : Lent)
+    → (store c p offset bytes m .after .table ≡ m .table) × (store c p offset bytes m .after .sheet ≡ m .sheet)
+unfolding store refuse write with-memory
+store-leaves c p offset bytes m = by-test (may-store c p offset (length bytes) m) (λ t. rw t (refl, refl)) (λ t. rw t (refl, refl))
+
+mark-leaves : (i value : ℕ) (m : Lent) → (mark i value m .after .memory ≡ m .memory) × (mark i value m .after .table ≡ m .table)
+unfolding mark refuse amend
+mark-leaves i value m = by-test (may-mark i value m) (λ t. rw t (refl, refl)) (λ t. rw t (refl, refl))
+
+module _ (b : Buffers) (w : well-sized b ≡ true) where
+  both-sized : (memory-sized (b .table) (b .memory) ≡ true) × (sheet-sized (b .sheet) ≡ true)
+  unfolding well-sized
+  both-sized = and-eq-true-iff (memory-sized (b .table) (b .memory)) (sheet-sized (b .sheet)) .0 w
+
+  call-step : (caller : ℕ) (g : Registers)
+      → call-bytes caller (record { registers = g; machine = b }) .after .machine ≡ joined (called caller g (record { lent = parted b }) .after .machine .lent)
+  unfolding call-bytes called refuse
+  call-step caller g = rw w
+
+  store-step : (c p offset : ℕ) (bytes : List ℕ)
+      → store-bytes c p offset bytes (b .table) (b .memory) .after ≡ join (store c p offset bytes (parted b) .after .memory)
+  unfolding store-bytes store refuse parted may-store below N table-byte write with-memory
+  store-step c p offset bytes =
+      rw (both-sized .0)
+      (by-test (may-store c p offset (length bytes) (parted b)) (λ t. rw t) (λ t. rw t))
+
+  mark-step : (i value : ℕ) → mark-bytes i value (b .sheet) .after ≡ join (mark i value (parted b) .after .sheet)
+  unfolding mark-bytes mark refuse parted may-mark record-at amend
+  mark-step i value = rw (both-sized .1) (by-test (may-mark i value (parted b)) (λ t. rw t) (λ t. rw t))
+
+  -- each step on bytes is the step on the machine, joined
+  bytes-step : (s : Step) → step-bytes s b ≡ joined (step s (record { lent = parted b }) .lent)
+  unfolding step-bytes step joined with-lent parted
+  bytes-step (calls caller g) = call-step caller g
+  bytes-step (stores c p offset bytes) =
+      λ i. record {
+        memory = store-step c p offset bytes i;
+        table = sym (store-leaves c p offset bytes (parted b) .0) i;
+        sheet = sym (ap join (store-leaves c p offset bytes (parted b) .1) ∙ join-sheet (b .sheet) (both-sized .1)) i;
+      }
+  bytes-step (marks j value) =
+      λ i. record {
+        memory = sym (ap join (mark-leaves j value (parted b) .0) ∙ join-memory (b .table) (b .memory) (both-sized .0)) i;
+        table = sym (mark-leaves j value (parted b) .1) i;
+        sheet = mark-step j value i;
+      }
+
+-- a sound machine's bytes after a step: sound, and the machine after it
+module _ (kept : Stays-sound) where
+  step-agrees : (s : Step) (b : Buffers) → sound-bytes b ≡ true
+      → (sound-bytes (step-bytes s b) ≡ true) × (parted (step-bytes s b) ≡ step s (record { lent = parted b }) .lent)
+  unfolding sound-bytes Stays-sound run-steps
+  step-agrees s b e =
+      let both = and-eq-true-iff (well-sized b) (sound (parted b)) .0 e in
+      let after = step s (record { lent = parted b }) .lent in
+      let fine : sound after ≡ true = kept (s ∷ []) (record { lent = parted b }) (both .1) in
+      let same = bytes-step b (both .0) s in
+      (ap sound-bytes same ∙ sound-joined after fine, ap parted same ∙ parted-joined after (sizes-of after fine))
+
+  pub runs-on-bytes-by : Runs-on-bytes
+  unfolding Runs-on-bytes run-bytes run-steps
+  runs-on-bytes-by [] b e = (e, refl)
+  runs-on-bytes-by (s ∷ ss) b e =
+      let one = step-agrees s b e in
+      let rest = runs-on-bytes-by ss (step-bytes s b) (one .0) in
+      (rest .0, rest .1 ∙ ap (λ m. run-steps ss (record { lent = m }) .lent) (one .1))
+
+-- ---- launch
+
+-- each part has the size
+each-part : (size : ℕ) → 0 < size → (l : List ℕ) → every (λ r. eqb (length r) size) (parts size l) ≡ true
+each-part size pos l = →every (λ r. eqb (length r) size) (parts size l) [] (λ p h. eq-eqb _ _ (length-row size l p pos h))
+
+rows-count : (n : ℕ) → n ≡ record-size * records → n / record-size ≡ records
+unfolding record-size records
+rows-count n e = omega arith
+
+in-range : (n bytes : ℕ) → memory-fits n bytes ≡ true → between least-pages most-pages n ≡ true
+unfolding memory-fits
+in-range n bytes e = and-eq-true-iff (between least-pages most-pages n) (eqb bytes (page-size * n)) .0 e .0
+
+parted-sized : (b : Buffers) → well-sized b ≡ true → (table-sized (parted b) ≡ true) × (pages-sized (parted b) ≡ true)
+unfolding table-sized pages-sized parted N record-size page-size memory-sized
+parted-sized b w =
+    let both = both-sized b w in
+    let fits = sizes (length (b .table)) (length (b .memory)) (both .0) in
+    let rows : length (parts record-size (b .sheet)) ≡ records = length-parts record-size (b .sheet) ∙ rows-count (length (b .sheet)) (sized-sheet (b .sheet) (both .1)) in (
+      rw (in-range (length (b .table)) (length (b .memory)) (both .0), eq-eqb _ _ rows, each-part record-size (lit< tt) (b .sheet)),
+      rw (eq-eqb _ _ (length-pages (b .table) (b .memory) (both .0)), each-part page-size (lit< tt) (b .memory)),
+    )
+
+one-is-not-zero : launched-number WrongSize ≡ launched-number Made → ⊥
+unfolding launched-number
+one-is-not-zero e = omega arith
+
+module _ (made : Launched-sound) where
+  pub launched-on-bytes-by : Launched-on-bytes
+  unfolding Launched-on-bytes Launched-sound launch-bytes refuse
+  launched-on-bytes-by n plan b e =
+      by-test (well-sized b && eqb n (length (b .table)))
+      (λ t.
+      let w = and-eq-true-iff (well-sized b) (eqb n (length (b .table))) .0 t .0 in
+      let sizes = parted-sized b w in
+      rw t (sound-joined _ (made plan (record { lent = parted b }) (sizes .0) (sizes .1) (rw t at e))))
+      (λ t. absurd (one-is-not-zero (ap launched-number (rw t at e))))

@@ -1,0 +1,5 @@
+-- What no step touches: statements 2 and 3.
+pub mod Sealed
+pub mod Untouched
+pub mod Fates
+pub mod Steps

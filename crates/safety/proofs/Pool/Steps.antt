@@ -1,0 +1,452 @@
+-- Statement 4: over each step the pool grows by what is taken in, less what is given back.
+use mathlib.Core.Path.{_≡_, refl, _∙_, ap}
+use mathlib.Core.Bool.{true, false, cond, not, _&&_, _||_, and-eq-true-iff, and-false}
+use mathlib.Core.List.{[]}
+use Prim.Native.Nat.{ℕ, _+_, _-_, _*_, _^_, min, _<_, _≤_}
+use native.Mathlib.Omega.{arith}
+use lib.Dec.{leb, ltb, eqb}
+use lib.ListN.{length, getD}
+use borrow.Author.Tests.{ltb-false, leb-false, eqb-true, not-true, not-false}
+use Rattle.rules.specs.Words.{page-size, records, entries-a-call, multiple, range, exists}
+use Rattle.rules.specs.Answers.{Answered, refuse, code-number, outcome-number}
+use Rattle.rules.specs.declared.Registers.{Registers}
+use Rattle.rules.specs.declared.Outcome.{Outcome}
+use Rattle.rules.specs.declared.Outcome.the-variants.{Handled, NoCall, BadMachine}
+use Rattle.rules.specs.declared.Code.{Code}
+use Rattle.rules.specs.declared.Code.the-variants.{Success, BadPending, Parameter, Address}
+use Rattle.rules.specs.declared.ListCall.{ListCall}
+use Rattle.rules.specs.declared.ListCall.the-variants.{Deposit}
+use Rattle.rules.specs.Machine.{Lent, Machine, with-lent, N, page-of, offset-of, page-at, is-live, record-at, vcpu, startup}
+use Rattle.rules.specs.Steps.{store, mark, may-store, may-mark}
+use Rattle.rules.specs.Sound.{bad-record, pages-sized, sound}
+use Rattle.rules.specs.Lists.{bad-list-page, in-list, list-count, list-next, store-index, bad-count, bad-next, run-within, list-call}
+use Rattle.rules.specs.Calls.{withdrawn-pages, withdrawn, withdraw}
+use Rattle.rules.specs.Call.{Posed, with-rax, bad-sheet, bad-machine, pending, no-call, protocol, call-number, on-lent, on-rcx, dispatch, handle}
+use Rattle.rules.specs.Call.{clear-pending, set-flag, finish, call}
+use Rattle.rules.specs.Runs.{Step, calls, stores, marks, called, step, pool, handled-as, head-accepted, pages-listed, taken-in, given-back}
+use Rattle.laws.proofs.Ranges.{by-test, every→}
+use Rattle.laws.proofs.Tested.{or-false}
+use Rattle.laws.proofs.Withdrawals.{list-page-below}
+use Rattle.safety.specs.Statements.{last-writes}
+use Rattle.safety.proofs.Sound.Facts.{open-sound}
+use Rattle.safety.proofs.Pool.Counts.{pool-table, pool-write, pool-amend}
+use Rattle.safety.proofs.Pool.Pages.{remap-pool, create-pool, delete-pool}
+use Rattle.safety.proofs.Pool.Lists.{pages-none, pvalidate-pool, Deposited, run-deposits}
+use Rattle.safety.proofs.Pool.Bytes.{in-list-written, offset-eight, offset-below, list-behind, in-list-last, table-last}
+use Rattle.safety.proofs.Pool.Withdraw.{withdrawn-pool, withdrawn-sheet, withdrawn-count}
+
+-- ---- sizes
+
+-- a page below N is in memory, and whole
+module _ (m : Lent) (s : sound m ≡ true) (p : ℕ) (h : p < N m) where
+  memory-length : length (m .memory) ≡ N m
+  unfolding pages-sized
+  memory-length = eqb-true (length (m .memory)) (N m) (and-eq-true-iff (eqb (length (m .memory)) (N m)) _ .0 (open-sound m s .memories) .0)
+
+  -- it is in memory
+  pub page-there : p < length (m .memory)
+  page-there = rw memory-length h
+
+  -- and has its size
+  pub page-whole : length (page-at m p) ≡ page-size
+  unfolding pages-sized page-at
+  page-whole =
+      eqb-true (length (getD (m .memory) p [])) page-size
+      (every→ (λ page. eqb (length page) page-size) (m .memory) p []
+      (and-eq-true-iff (eqb (length (m .memory)) (N m)) _ .0 (open-sound m s .memories) .1) page-there)
+
+-- ---- the end of a call
+
+module _ (caller : ℕ) (g : Registers) (a : Answered Code (Posed Registers Machine)) where
+  -- it leaves the pool
+  finish-pool : pool (finish caller g a .after .machine .lent) ≡ pool (a .after .machine .lent)
+  unfolding finish with-lent clear-pending set-flag
+  finish-pool =
+      by-test (is-live (record-at (a .after .machine .lent) caller)) (λ t. rw t (pool-write _ _ _ _ ∙ pool-write _ _ _ _)) (λ t. rw t (pool-write _ _ _ _))
+
+  -- of a caller that lives on
+  finish-live : is-live (record-at (a .after .machine .lent) caller) ≡ true
+      → finish caller g a
+      ≡ record {
+        answer = Handled;
+        after = record {
+          registers = with-rax (code-number (a .answer)) (a .after .registers);
+          machine = with-lent (last-writes caller (a .after .machine .lent)) (a .after .machine);
+        };
+      }
+  unfolding finish last-writes
+  finish-live live = rw live
+
+-- ---- a call
+
+-- what is to be proved of a step
+unfoldable pub Counted : Step → Machine → Type 0
+Counted s m = pool (step s m .lent) + given-back s m ≡ pool (m .lent) + taken-in s m
+
+module _ (caller : ℕ) (g : Registers) (m : Machine) where
+  taken-none : handled-as 4 caller g m ≡ false → taken-in (calls caller g) m ≡ 0
+  unfolding taken-in
+  taken-none e = rw e
+
+  given-none : handled-as 5 caller g m ≡ false → given-back (calls caller g) m ≡ 0
+  unfolding given-back
+  given-none e = rw e
+
+  other-call : (n : ℕ) → eqb (call-number g) n ≡ false → handled-as n caller g m ≡ false
+  unfolding handled-as
+  other-call n e = rw e (and-false (eqb (outcome-number (called caller g m .answer)) 0 && eqb (protocol g) 0))
+
+  other-protocol : (n : ℕ) → eqb (protocol g) 0 ≡ false → handled-as n caller g m ≡ false
+  unfolding handled-as
+  other-protocol n e = rw (e, and-false (eqb (outcome-number (called caller g m .answer)) 0))
+
+  not-handled : (n : ℕ) → eqb (outcome-number (called caller g m .answer)) 0 ≡ false → handled-as n caller g m ≡ false
+  unfolding handled-as
+  not-handled n e = rw e
+
+  -- the pool as it was, and nothing taken in or given back
+  quiet : pool (called caller g m .after .machine .lent) ≡ pool (m .lent) → taken-in (calls caller g) m ≡ 0 → given-back (calls caller g) m ≡ 0
+      → Counted (calls caller g) m
+  unfolding Counted step
+  quiet e t b = omega (arith, e, t, b)
+
+  abbrev posed : Posed Registers Machine
+  posed = record { registers = g; machine = m }
+
+  -- bad machine, and no call
+  unreal-counted : (o : Outcome) → called caller g m ≡ record { answer = o; after = posed } → eqb (outcome-number o) 0 ≡ false
+      → Counted (calls caller g) m
+  unreal-counted o is e =
+      let out : eqb (outcome-number (called caller g m .answer)) 0 ≡ false = rw is e in
+      quiet (ap (λ a. pool (a .after .machine .lent)) is) (taken-none (not-handled 4 out)) (given-none (not-handled 5 out))
+
+  bad-counted : bad-machine caller (m .lent) ≡ true → Counted (calls caller g) m
+  unfolding called call refuse outcome-number
+  bad-counted e = unreal-counted BadMachine (rw e) refl
+
+  none-counted : bad-machine caller (m .lent) ≡ false → no-call caller g (m .lent) ≡ true → Counted (calls caller g) m
+  unfolding called call refuse outcome-number
+  none-counted e f = unreal-counted NoCall (rw (e, f)) refl
+
+  -- a refusal's code gives nothing back
+  given-code : eqb (called caller g m .after .registers .rax) 0 ≡ false → given-back (calls caller g) m ≡ 0
+  unfolding given-back
+  given-code e = rw (e, and-false (handled-as 5 caller g m))
+
+  taken-head : head-accepted (vcpu (m .lent) caller .vmpl) (g .rcx) (m .lent) ≡ false → taken-in (calls caller g) m ≡ 0
+  unfolding taken-in
+  taken-head e = rw (e, and-false (handled-as 4 caller g m))
+
+  -- the index as it was takes nothing in
+  taken-still : list-next (g .rcx) (called caller g m .after .machine .lent) ≡ list-next (g .rcx) (m .lent) → taken-in (calls caller g) m ≡ 0
+  unfolding taken-in
+  taken-still e =
+      by-test (handled-as 4 caller g m && head-accepted (vcpu (m .lent) caller .vmpl) (g .rcx) (m .lent))
+      (λ t. rw (t, e) (pages-none (g .rcx) (list-next (g .rcx) (m .lent)) (m .lent)))
+      (λ t. rw t)
+
+-- a head that is accepted
+record Accepted (vmpl rcx : ℕ) (m : Lent) : Type 0 where
+  aligned : multiple 8 rcx ≡ true
+  page : bad-list-page vmpl rcx m ≡ false
+  counts : bad-count rcx m ≡ false
+  nexts : bad-next rcx m ≡ false
+
+accepted : (vmpl rcx : ℕ) (m : Lent) → head-accepted vmpl rcx m ≡ true → Accepted vmpl rcx m
+unfolding head-accepted
+accepted vmpl rcx m e =
+    let a = multiple 8 rcx in
+    let b = not (bad-list-page vmpl rcx m) in
+    let c = not (bad-count rcx m) in
+    let outer = and-eq-true-iff (a && b && c) (not (bad-next rcx m)) .0 e in
+    let inner = and-eq-true-iff (a && b) c .0 (outer .0) in
+    let both = and-eq-true-iff a b .0 (inner .0) in
+    record {
+      aligned = both .0;
+      page = not-true (bad-list-page vmpl rcx m) (both .1);
+      counts = not-true (bad-count rcx m) (inner .1);
+      nexts = not-true (bad-next rcx m) (outer .1);
+    }
+
+-- a list call is its run, if the head is accepted
+head-runs : (budget : ℕ) (c : ListCall) (caller rcx : ℕ) (m : Lent)
+    → list-call budget c caller rcx m .after ≡ cond (head-accepted (vcpu m caller .vmpl) rcx m) (run-within budget c caller rcx m .after) m
+unfolding list-call refuse head-accepted
+head-runs budget c caller rcx m =
+    by-test (multiple 8 rcx)
+    (λ t. rw t
+    (by-test (bad-list-page (vcpu m caller .vmpl) rcx m) (λ u. rw u)
+    (λ u. rw u
+    (by-test (bad-count rcx m) (λ v. rw v)
+    (λ v. rw v (by-test (bad-next rcx m) (λ w. rw w) (λ w. rw w)))))))
+    (λ t. rw t)
+
+-- the index stays within the count, and the count within two bytes
+index-fits : (budget rcx to : ℕ) (m : Lent) → bad-count rcx m ≡ false → bad-next rcx m ≡ false
+    → to ≤ list-next rcx m + min budget (list-count rcx m - list-next rcx m) → to < 256 ^ 2
+unfolding bad-count bad-next page-size
+index-fits budget rcx to m e f h =
+    let n = list-count rcx m in
+    let few = ltb-false 4096 (offset-of rcx + 8 + 8 * n) (or-false (eqb n 0) (ltb 4096 (offset-of rcx + 8 + 8 * n)) e .1) in
+    omega (arith, leb-false n (list-next rcx m) f)
+
+-- the page of a list that is accepted is one
+list-inside : (vmpl rcx : ℕ) (m : Lent) → bad-list-page vmpl rcx m ≡ false → page-of rcx < N m
+unfolding N
+list-inside = list-page-below
+
+-- the list's numbers are read from memory
+in-list-memory : (w at rcx : ℕ) (m m′ : Lent) → m′ .memory ≡ m .memory → in-list w at rcx m′ ≡ in-list w at rcx m
+unfolding in-list page-at
+in-list-memory w at rcx m m′ e = rw e
+
+pending-code : eqb (code-number BadPending) 0 ≡ false
+unfolding code-number
+pending-code = refl
+
+parameter-code : eqb (code-number Parameter) 0 ≡ false
+unfolding code-number
+parameter-code = refl
+
+address-code : eqb (code-number Address) 0 ≡ false
+unfolding code-number
+address-code = refl
+
+success-code : code-number Success ≡ 0
+unfolding code-number
+success-code = refl
+
+-- ---- a call that is one
+
+module _ (caller : ℕ) (g : Registers) (m : Machine) (s : sound (m .lent) ≡ true) (fine : bad-machine caller (m .lent) ≡ false)
+    (made : no-call caller g (m .lent) ≡ false) where
+  real : called caller g m ≡ finish caller g (handle caller (posed caller g m))
+  unfolding called call refuse
+  real = rw (fine, made)
+
+  shapes : (caller < records) × (is-live (record-at (m .lent) caller) ≡ true) × (is-live (record-at (m .lent) 0) ≡ true)
+  unfolding bad-machine bad-sheet record-at
+  shapes =
+      let rows = m .lent .sheet in
+      let above = leb records caller in
+      let dead = not (is-live (getD rows caller [])) in
+      let dead-0 = not (is-live (getD rows 0 [])) in
+      let outer = or-false (above || dead || dead-0) (exists (bad-record (N (m .lent))) rows) fine in
+      let inner = or-false (above || dead) dead-0 (outer .0) in
+      let first = or-false above dead (inner .0) in
+      (leb-false records caller (first .0), not-false _ (first .1), not-false _ (inner .1))
+
+  -- the pool is the one that the call itself leaves
+  after-pool : pool (called caller g m .after .machine .lent) ≡ pool (handle caller (posed caller g m) .after .machine .lent)
+  after-pool = ap (λ a. pool (a .after .machine .lent)) real ∙ finish-pool caller g (handle caller (posed caller g m))
+
+  -- a call that neither takes in nor gives back
+  quiet-call : pool (handle caller (posed caller g m) .after .machine .lent) ≡ pool (m .lent) → eqb (call-number g) 4 ≡ false → eqb (call-number g) 5 ≡ false
+      → Counted (calls caller g) m
+  quiet-call e f h =
+      quiet caller g m (after-pool ∙ e) (taken-none caller g m (other-call caller g m 4 f)) (given-none caller g m (other-call caller g m 5 h))
+
+  protocol-counted : leb 2 (pending caller (m .lent)) ≡ false → eqb (protocol g) 0 ≡ false → Counted (calls caller g) m
+  unfolding handle refuse
+  protocol-counted p e =
+      quiet caller g m (after-pool ∙ rw (p, e)) (taken-none caller g m (other-protocol caller g m 4 e)) (given-none caller g m (other-protocol caller g m 5 e))
+
+  -- a call on the lent buffers that leaves the sheet
+  module _ (a : Answered Code Lent) (is : handle caller (posed caller g m) ≡ on-lent a (posed caller g m)) (sheet : a .after .sheet ≡ m .lent .sheet) where
+    still-live : is-live (record-at (a .after) caller) ≡ true
+    unfolding record-at
+    still-live = rw sheet (shapes .1)
+
+    ended : called caller g m
+        ≡ record {
+          answer = Handled;
+          after = record { registers = with-rax (code-number (a .answer)) g; machine = with-lent (last-writes caller (a .after)) m };
+        }
+    unfolding on-lent with-lent
+    ended = real ∙ ap (finish caller g) is ∙ finish-live caller g (on-lent a (posed caller g m)) still-live
+
+    ended-lent : called caller g m .after .machine .lent ≡ last-writes caller (a .after)
+    unfolding with-lent
+    ended-lent = ap (λ x. x .after .machine .lent) ended
+
+    ended-rax : called caller g m .after .registers .rax ≡ code-number (a .answer)
+    unfolding with-rax
+    ended-rax = ap (λ x. x .after .registers .rax) ended
+
+    ended-handled : eqb (outcome-number (called caller g m .answer)) 0 ≡ true
+    unfolding outcome-number
+    ended-handled = rw ended
+
+    ended-pool : pool (called caller g m .after .machine .lent) ≡ pool (a .after)
+    ended-pool = rw ended-lent (pool-table (a .after) (last-writes caller (a .after)) (table-last caller (a .after)))
+
+    -- the list's numbers as the call itself leaves them
+    list-kept : (w at vmpl : ℕ) → multiple 8 (g .rcx) ≡ true → bad-list-page vmpl (g .rcx) (m .lent) ≡ false
+        → in-list w at (g .rcx) (called caller g m .after .machine .lent) ≡ in-list w at (g .rcx) (a .after)
+    unfolding vcpu startup record-at
+    list-kept w at vmpl mult page =
+        let behind = list-behind (m .lent) s vmpl (g .rcx) mult page in
+        rw ended-lent
+        (in-list-last caller (g .rcx) w at (a .after)
+        (λ e. omega (arith, behind caller (shapes .0) (shapes .1) (rw sheet at e)))
+        (λ e. omega (arith, behind 0 (omega (arith, shapes .0)) (shapes .2) (rw sheet at e))))
+
+  -- a pending byte above 1
+  pending-counted : leb 2 (pending caller (m .lent)) ≡ true → Counted (calls caller g) m
+  unfolding handle refuse on-lent with-lent list-next
+  pending-counted p =
+      let a : Answered Code Lent = record { answer = BadPending; after = m .lent } in
+      let is : handle caller (posed caller g m) ≡ on-lent a (posed caller g m) = rw p in
+      let vmpl = vcpu (m .lent) caller .vmpl in
+      quiet caller g m (ended-pool a is refl)
+      (by-test (head-accepted vmpl (g .rcx) (m .lent))
+      (λ t. let h = accepted vmpl (g .rcx) (m .lent) t in taken-still caller g m (list-kept a is refl 2 2 vmpl (h .aligned) (h .page)))
+      (taken-head caller g m))
+      (given-code caller g m (rw (ended-rax a is refl) pending-code))
+
+  -- Deposit
+  module _ (is : handle caller (posed caller g m) ≡ on-lent (list-call entries-a-call Deposit caller (g .rcx) (m .lent)) (posed caller g m))
+      (protocol-0 : protocol g ≡ 0) (number-4 : call-number g ≡ 4) where
+    abbrev deposit : Answered Code Lent
+    deposit = list-call entries-a-call Deposit caller (g .rcx) (m .lent)
+
+    abbrev from : ℕ
+    from = list-next (g .rcx) (m .lent)
+
+    abbrev todo : ℕ
+    todo = min entries-a-call (list-count (g .rcx) (m .lent) - from)
+
+    nothing-given : given-back (calls caller g) m ≡ 0
+    nothing-given = given-none caller g m (other-call caller g m 5 (rw number-4))
+
+    module _ (acc : head-accepted (vcpu (m .lent) caller .vmpl) (g .rcx) (m .lent) ≡ true) where
+      deposits : Deposited (g .rcx) todo from (m .lent) (deposit .after)
+      unfolding run-within
+      deposits =
+          rw (head-runs entries-a-call Deposit caller (g .rcx) (m .lent), acc) (run-deposits caller (g .rcx) todo from (m .lent))
+
+      index-after : list-next (g .rcx) (called caller g m .after .machine .lent) ≡ deposits .to
+      unfolding list-next store-index page-size
+      index-after =
+          let vmpl = vcpu (m .lent) caller .vmpl in
+          let rcx = g .rcx in
+          let h = accepted vmpl rcx (m .lent) acc in
+          let inside = list-inside vmpl rcx (m .lent) (h .page) in
+          let room : offset-of rcx + 2 + 2 ≤ length (page-at (m .lent) (page-of rcx))
+          = rw (page-whole (m .lent) s (page-of rcx) inside) (omega (arith, offset-below rcx, offset-eight rcx (h .aligned))) in
+          list-kept deposit is (deposits .sheet) 2 2 vmpl (h .aligned) (h .page)
+          ∙ in-list-memory 2 2 rcx (store-index (deposits .to) rcx (m .lent)) (deposit .after) (deposits .memory)
+          ∙ in-list-written 2 2 (offset-of rcx + 2) (deposits .to) rcx (m .lent) refl (page-there (m .lent) s (page-of rcx) inside) room
+          (index-fits entries-a-call rcx (deposits .to) (m .lent) (h .counts) (h .nexts) (deposits .most))
+
+      deposit-taken : taken-in (calls caller g) m ≡ pages-listed (g .rcx) (m .lent) (range from (deposits .to - from))
+      unfolding taken-in handled-as
+      deposit-taken = rw (ended-handled deposit is (deposits .sheet), protocol-0, number-4, acc, index-after)
+
+      deposit-accepted : Counted (calls caller g) m
+      unfolding Counted step
+      deposit-accepted = omega (arith, nothing-given, deposit-taken, ended-pool deposit is (deposits .sheet), deposits .counted)
+
+    deposit-refused : head-accepted (vcpu (m .lent) caller .vmpl) (g .rcx) (m .lent) ≡ false → deposit .after ≡ m .lent
+    deposit-refused t = head-runs entries-a-call Deposit caller (g .rcx) (m .lent) ∙ rw t
+
+    deposit-counted : Counted (calls caller g) m
+    deposit-counted =
+        by-test (head-accepted (vcpu (m .lent) caller .vmpl) (g .rcx) (m .lent)) deposit-accepted
+        (λ t. quiet caller g m
+        (ended-pool deposit is (ap (λ (l : Lent). l .sheet) (deposit-refused t)) ∙ ap pool (deposit-refused t)) (taken-head caller g m t) nothing-given)
+
+  -- Withdraw
+  module _ (protocol-0 : protocol g ≡ 0) (number-5 : call-number g ≡ 5) where
+    nothing-taken : taken-in (calls caller g) m ≡ 0
+    nothing-taken = taken-none caller g m (other-call caller g m 4 (rw number-5))
+
+    withdraw-refused : (code : Code) → eqb (code-number code) 0 ≡ false
+        → handle caller (posed caller g m) ≡ on-lent (record { answer = code; after = m .lent }) (posed caller g m) → Counted (calls caller g) m
+    withdraw-refused code e is =
+        let a : Answered Code Lent = record { answer = code; after = m .lent } in
+        quiet caller g m (ended-pool a is refl) nothing-taken (given-code caller g m (rw (ended-rax a is refl) e))
+
+    module _ (mult : multiple 8 (g .rcx) ≡ true) (page : bad-list-page (vcpu (m .lent) caller .vmpl) (g .rcx) (m .lent) ≡ false)
+        (is : handle caller (posed caller g m)
+        ≡ on-lent (record { answer = Success; after = withdrawn (vcpu (m .lent) caller .vmpl) (g .rcx) (m .lent) }) (posed caller g m)) where
+      abbrev withdrawal : Answered Code Lent
+      withdrawal = record { answer = Success; after = withdrawn (vcpu (m .lent) caller .vmpl) (g .rcx) (m .lent) }
+
+      withdrawal-sheet : withdrawal .after .sheet ≡ m .lent .sheet
+      withdrawal-sheet = withdrawn-sheet (vcpu (m .lent) caller .vmpl) (g .rcx) (m .lent)
+
+      count-after : in-list 2 0 (g .rcx) (called caller g m .after .machine .lent) ≡ length (withdrawn-pages (g .rcx) (m .lent))
+      unfolding page-size
+      count-after =
+          let vmpl = vcpu (m .lent) caller .vmpl in
+          let rcx = g .rcx in
+          let inside = list-inside vmpl rcx (m .lent) page in
+          let room : offset-of rcx + 2 ≤ length (page-at (m .lent) (page-of rcx))
+          = rw (page-whole (m .lent) s (page-of rcx) inside) (omega (arith, offset-below rcx, offset-eight rcx mult)) in
+          list-kept withdrawal is withdrawal-sheet 2 0 vmpl mult page
+          ∙ withdrawn-count vmpl rcx (m .lent) (page-there (m .lent) s (page-of rcx) inside) room
+
+      withdrawal-given : given-back (calls caller g) m ≡ length (withdrawn-pages (g .rcx) (m .lent))
+      unfolding given-back handled-as
+      withdrawal-given =
+          rw (ended-handled withdrawal is withdrawal-sheet, protocol-0, number-5, ended-rax withdrawal is withdrawal-sheet, success-code) count-after
+
+      withdraw-done : Counted (calls caller g) m
+      unfolding Counted step
+      withdraw-done =
+          omega (
+            arith,
+            nothing-taken,
+            withdrawal-given,
+            ended-pool withdrawal is withdrawal-sheet,
+            withdrawn-pool (vcpu (m .lent) caller .vmpl) (g .rcx) (m .lent),
+          )
+
+    withdraw-counted : handle caller (posed caller g m) ≡ on-lent (withdraw caller (g .rcx) (m .lent)) (posed caller g m) → Counted (calls caller g) m
+    unfolding withdraw refuse
+    withdraw-counted is =
+        let vmpl = vcpu (m .lent) caller .vmpl in
+        let odd = not (multiple 8 (g .rcx)) in
+        by-test (odd || eqb (offset-of (g .rcx)) 0xFF8) (λ t. withdraw-refused Parameter parameter-code (rw t at is))
+        (λ t. by-test (bad-list-page vmpl (g .rcx) (m .lent)) (λ u. withdraw-refused Address address-code (rw (t, u) at is))
+        (λ u. withdraw-done (not-false _ (or-false odd (eqb (offset-of (g .rcx)) 0xFF8) t .0)) u (rw (t, u) at is)))
+
+  -- the eight calls, and a call of another number
+  handle-counted : Counted (calls caller g) m
+  unfolding handle refuse dispatch on-lent on-rcx with-lent
+  handle-counted =
+      let n = call-number g in
+      let other : (k : ℕ) → n ≡ k → eqb k 4 ≡ false → eqb n 4 ≡ false = λ k e f. rw e f in
+      let other′ : (k : ℕ) → n ≡ k → eqb k 5 ≡ false → eqb n 5 ≡ false = λ k e f. rw e f in
+      by-test (leb 2 (pending caller (m .lent))) pending-counted
+      (λ p. by-test (eqb (protocol g) 0)
+      (λ q. let zero-protocol = eqb-true (protocol g) 0 q in
+      by-test (eqb n 0)
+      (λ t. let k = eqb-true n 0 t in
+      quiet-call (rw (p, q, t) (remap-pool caller (m .lent) s (shapes .0) (shapes .1) (g .rcx))) (other 0 k refl) (other′ 0 k refl))
+      (λ t. by-test (eqb n 1)
+      (λ u. let k = eqb-true n 1 u in
+      quiet-call (rw (p, q, t, u) (pvalidate-pool caller (g .rcx) entries-a-call (m .lent))) (other 1 k refl) (other′ 1 k refl))
+      (λ u. by-test (eqb n 2)
+      (λ v. let k = eqb-true n 2 v in
+      quiet-call (rw (p, q, t, u, v) (create-pool caller (g .rcx) (g .rdx) (g .r8) (m .lent))) (other 2 k refl) (other′ 2 k refl))
+      (λ v. by-test (eqb n 3)
+      (λ w. let k = eqb-true n 3 w in
+      quiet-call (rw (p, q, t, u, v, w) (delete-pool caller (g .rcx) (m .lent) s)) (other 3 k refl) (other′ 3 k refl))
+      (λ w. by-test (eqb n 4) (λ x. deposit-counted (rw (p, q, t, u, v, w, x)) zero-protocol (eqb-true n 4 x))
+      (λ x. by-test (eqb n 5) (λ y. withdraw-counted zero-protocol (eqb-true n 5 y) (rw (p, q, t, u, v, w, x, y)))
+      (λ y. quiet-call
+      (rw (p, q, t, u, v, w, x, y) (by-test (eqb n 6) (λ z. rw z) (λ z. rw z (by-test (eqb n 7) (λ z′. rw z′) (λ z′. rw z′))))) x y)))))))
+      (protocol-counted p))
+
+-- statement 4, of a step
+pub step-counted : (s : Step) (m : Machine) → sound (m .lent) ≡ true → pool (step s m .lent) + given-back s m ≡ pool (m .lent) + taken-in s m
+unfolding Counted step with-lent store mark refuse given-back taken-in
+step-counted (calls caller g) m s =
+    by-test (bad-machine caller (m .lent)) (bad-counted caller g m)
+    (λ t. by-test (no-call caller g (m .lent)) (none-counted caller g m t) (handle-counted caller g m s t))
+step-counted (stores c p offset bytes) m s =
+    by-test (not (may-store c p offset (length bytes) (m .lent))) (λ t. rw t) (λ t. rw (t, pool-write p offset bytes (m .lent)))
+step-counted (marks i value) m s =
+    by-test (not (may-mark i value (m .lent))) (λ t. rw t) (λ t. rw (t, pool-amend _ i (m .lent)))

@@ -1,0 +1,15 @@
+-- A sound machine, and that launch makes one and every step keeps it: statements 0 and 1.
+pub mod Facts
+pub mod Claims
+pub mod LiveRows
+pub mod Rows
+pub mod OnePage
+pub mod Changed
+pub mod Lists
+pub mod Withdraw
+pub mod Remap
+pub mod Create
+pub mod Delete
+pub mod Steps
+pub mod Launch
+pub mod Runs

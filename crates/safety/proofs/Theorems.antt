@@ -1,0 +1,134 @@
+-- A proof for each statement of specs/Statements.antt, under its number. Nothing is assumed.
+use mathlib.Core.Path.{_≡_}
+use mathlib.Core.Bool.{true}
+use Prim.Native.Nat.{ℕ, _<_}
+use Rattle.rules.specs.Words.{records, entries-a-call}
+use Rattle.rules.specs.Machine.{Lent, is-live, record-at}
+use Rattle.safety.specs.Statements.{Launched-sound, Stays-sound, Sealed, Monitor-kept, Vmsa-kept, Pool-kept, Step-counted, Run-counted}
+use Rattle.safety.specs.Statements.{Counted-from-launch, At-most, At-most-twelve, All-come-back, Unreal-changes-nothing, Unreal-changes-no-byte}
+use Rattle.safety.specs.Statements.{Gone-leaves, Refusal-leaves, Validated-once, Second-validation-refused, Validated-pages-zero}
+use Rattle.safety.specs.Statements.{Launched-on-bytes, Runs-on-bytes}
+use Rattle.safety.proofs.Sound.Facts.{Sound}
+use Rattle.safety.proofs.Sound.OnePage.{write-sound}
+use Rattle.safety.proofs.Sound.Rows.{vmsa-owned, calling-owned, pool-owned}
+use Rattle.safety.proofs.Sound.Lists.{list-call-sound}
+use Rattle.safety.proofs.Sound.Withdraw.{withdraw-sound}
+use Rattle.safety.proofs.Sound.Steps.{mark-sound}
+use Rattle.safety.proofs.Sound.Remap.{remap-sound}
+use Rattle.safety.proofs.Sound.Delete.{delete-sound}
+use Rattle.safety.proofs.Sound.Create.{create-sound}
+use Rattle.safety.proofs.Sound.Launch as Launch
+use Rattle.safety.proofs.Sound.Runs.{Each-sound, stays-sound-by}
+use Rattle.safety.proofs.Kept.Sealed as Sealing
+use Rattle.safety.proofs.Kept.Fates.{Owned}
+use Rattle.safety.proofs.Kept.Steps as Kept
+use Rattle.safety.proofs.Pool.Steps as Pool
+use Rattle.safety.proofs.Pool.Runs.{run-counted-by, counted-from-launch-by}
+use Rattle.safety.proofs.Pool.InUse as InUse
+use Rattle.safety.proofs.Pool.ComeBack.{all-come-back-by}
+use Rattle.safety.proofs.Always.Unreal as Unreal
+use Rattle.safety.proofs.Always.Gone as Gone
+use Rattle.safety.proofs.Always.Refusal as Refusal
+use Rattle.safety.proofs.Always.SecondValidation as Second
+use Rattle.safety.proofs.Bytes.{launched-on-bytes-by, runs-on-bytes-by}
+
+-- each call and each other step keeps a machine sound
+each-sound : Each-sound
+each-sound =
+    record {
+      remaps = λ caller rcx m s c. remap-sound caller rcx m s (c .below) (c .live);
+      lists = λ kind caller rcx m s c. list-call-sound kind caller rcx (c .below) entries-a-call m s (c .live);
+      creates = λ caller rcx rdx r8 m s c. create-sound caller rcx rdx r8 m s (c .below) (c .live);
+      deletes = λ caller rcx m s c. delete-sound caller rcx m s (c .below) (c .live);
+      withdraws = λ caller rcx m s c. withdraw-sound caller rcx (c .below) m s (c .live);
+      writes = write-sound;
+      mark-kept = mark-sound;
+    }
+
+-- the pages that a live record names have their owners
+owned : (m : Lent) → Sound m → (i : ℕ) → i < records → is-live (record-at m i) ≡ true → Owned i m
+owned m s i h live = record { vmsa = vmsa-owned m s i h live; calling = calling-owned m s i h live; pool = pool-owned m s i h live }
+
+-- 0
+pub launched-sound : Launched-sound
+launched-sound = Launch.launched-sound
+
+-- 1
+pub stays-sound : Stays-sound
+stays-sound = stays-sound-by each-sound
+
+-- 2
+pub sealed : Sealed
+sealed = Sealing.sealed
+
+-- 3
+pub monitor-kept : Monitor-kept
+monitor-kept = Kept.monitor-kept each-sound owned
+
+pub vmsa-kept : Vmsa-kept
+vmsa-kept = Kept.vmsa-kept each-sound owned
+
+pub pool-kept : Pool-kept
+pool-kept = Kept.pool-kept each-sound owned
+
+-- 4
+pub step-counted : Step-counted
+unfolding Step-counted
+step-counted = Pool.step-counted
+
+pub run-counted : Run-counted
+unfolding Run-counted Stays-sound
+run-counted = run-counted-by stays-sound
+
+pub counted-from-launch : Counted-from-launch
+unfolding Counted-from-launch Stays-sound Launched-sound
+counted-from-launch = counted-from-launch-by stays-sound launched-sound
+
+-- 5
+pub at-most : At-most
+unfolding At-most
+at-most = InUse.at-most
+
+pub at-most-twelve : At-most-twelve
+unfolding At-most-twelve
+at-most-twelve = InUse.at-most-twelve
+
+-- 6
+pub all-come-back : All-come-back
+all-come-back = all-come-back-by owned
+
+-- 7
+pub unreal-changes-nothing : Unreal-changes-nothing
+unfolding Unreal-changes-nothing
+unreal-changes-nothing = Unreal.unreal-changes-nothing
+
+pub unreal-changes-no-byte : Unreal-changes-no-byte
+unfolding Unreal-changes-no-byte
+unreal-changes-no-byte = Unreal.unreal-changes-no-byte
+
+pub gone-leaves : Gone-leaves
+gone-leaves = Gone.gone-leaves
+
+-- 8
+pub refusal-leaves : Refusal-leaves
+refusal-leaves = Refusal.refusal-leaves
+
+-- 9
+pub validated-once : Validated-once
+unfolding Validated-once
+validated-once = Second.validated-once
+
+pub second-validation-refused : Second-validation-refused
+unfolding Second-validation-refused
+second-validation-refused = Second.second-validation-refused
+
+pub validated-pages-zero : Validated-pages-zero
+unfolding Validated-pages-zero
+validated-pages-zero = Second.validated-pages-zero
+
+-- on the lent bytes
+pub launched-on-bytes : Launched-on-bytes
+launched-on-bytes = launched-on-bytes-by launched-sound
+
+pub runs-on-bytes : Runs-on-bytes
+runs-on-bytes = runs-on-bytes-by stays-sound
