@@ -5,4 +5,5 @@ pub mod Sound
 pub mod Kept
 pub mod Pool
 pub mod Bytes
+pub mod Results
 pub mod Theorems
