@@ -1,4 +1,4 @@
--- `call::put_byte` meets its contract: a page past the end is no page, to the definition too.
+-- `call::last::put_byte` meets its contract: a page past the end is no page, to the definition too.
 -- Assumes nothing.
 use native.Mathlib.Omega.{arith}
 use lib.Dec.{lit<}
@@ -9,8 +9,8 @@ use Rattle.laws.proofs.Parts.{length-parts}
 use Rattle.rules.specs.Flat.{parts}
 use lib.Seq.{set-out}
 use borrow.Author.Needs.{needs}
-use Rattle.call.proofs.put_byte.Statement.{statement}
-use Rattle.call.proofs.put_byte.Tie as tie
+use Rattle.call.proofs.last.put_byte.Statement.{statement}
+use Rattle.call.proofs.last.put_byte.Tie as tie
 
 put-byte-requires : tie.Need-put-byte-requires
 unfolding page-size

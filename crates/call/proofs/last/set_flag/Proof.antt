@@ -1,4 +1,4 @@
--- `call::set_flag` meets its contract: the byte of the page that the record names.
+-- `call::last::set_flag` meets its contract: the byte of the page that the record names.
 -- Assumes nothing.
 use mathlib.Core.Path.{_≡_, sym, ap}
 use lib.Dec.{lit<, lit≤}
@@ -9,8 +9,8 @@ use Rattle.rules.specs.Call.{set-flag}
 use Rattle.rules.specs.Flat.{Buffers, parts, parted}
 use Rattle.sheet.proofs.At.{at}
 use borrow.Author.Needs.{needs}
-use Rattle.call.proofs.set_flag.Statement.{statement}
-use Rattle.call.proofs.set_flag.Tie as tie
+use Rattle.call.proofs.last.set_flag.Statement.{statement}
+use Rattle.call.proofs.last.set_flag.Tie as tie
 
 number4-requires : tie.Need-number4-requires
 unfolding record-size records

@@ -1,4 +1,4 @@
--- `call::pending` meets its contract: the page that the tested record names is below N.
+-- `call::handled::pending` meets its contract: the page that the tested record names is below N.
 -- Assumes nothing.
 use lib.Dec.{lit<, lit≤}
 use denote.Ref.{now}
@@ -9,8 +9,8 @@ use Rattle.rules.specs.Flat.{Buffers, parts, parted}
 use Rattle.laws.proofs.Tested.{sheet-tested, pages-tested, caller-below, caller-names}
 use Rattle.sheet.proofs.At.{at}
 use borrow.Author.Needs.{needs}
-use Rattle.call.proofs.pending.Statement.{statement}
-use Rattle.call.proofs.pending.Tie as tie
+use Rattle.call.proofs.handled.pending.Statement.{statement}
+use Rattle.call.proofs.handled.pending.Tie as tie
 
 number4-requires : tie.Need-number4-requires
 unfolding record-size records

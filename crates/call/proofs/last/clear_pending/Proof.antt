@@ -1,4 +1,4 @@
--- `call::clear_pending` meets its contract: the byte of the page that the record names.
+-- `call::last::clear_pending` meets its contract: the byte of the page that the record names.
 -- Assumes nothing.
 use mathlib.Core.Path.{_≡_, sym, ap}
 use lib.Dec.{lit<, lit≤}
@@ -9,8 +9,8 @@ use Rattle.rules.specs.Call.{clear-pending}
 use Rattle.rules.specs.Flat.{Buffers, parts, parted}
 use Rattle.sheet.proofs.At.{at}
 use borrow.Author.Needs.{needs}
-use Rattle.call.proofs.clear_pending.Statement.{statement}
-use Rattle.call.proofs.clear_pending.Tie as tie
+use Rattle.call.proofs.last.clear_pending.Statement.{statement}
+use Rattle.call.proofs.last.clear_pending.Tie as tie
 
 number4-requires : tie.Need-number4-requires
 unfolding record-size records

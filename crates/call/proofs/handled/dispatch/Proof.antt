@@ -1,4 +1,4 @@
--- `call::dispatch` meets its contract: the call that RAX names, by its own contract.
+-- `call::handled::dispatch` meets its contract: the call that RAX names, by its own contract.
 -- Assumes nothing.
 use mathlib.Core.Path.{refl}
 use borrow.Author.Tests.{ne-eqb}
@@ -6,8 +6,8 @@ use Rattle.rules.specs.Machine.{with-lent}
 use Rattle.rules.specs.Call.{dispatch, on-lent, on-rcx, with-rcx}
 use Rattle.call.proofs.Chosen.{named}
 use borrow.Author.Needs.{needs}
-use Rattle.call.proofs.dispatch.Statement.{statement}
-use Rattle.call.proofs.dispatch.Tie as tie
+use Rattle.call.proofs.handled.dispatch.Statement.{statement}
+use Rattle.call.proofs.handled.dispatch.Tie as tie
 
 cast-number : tie.Need-cast-number
 cast-number c = search needs

@@ -1,9 +1,9 @@
--- `call::flag` meets its contract.
+-- `call::last::flag` meets its contract.
 -- Assumes nothing.
 use Rattle.rules.specs.Words.{exists}
 use borrow.Author.Needs.{needs}
-use Rattle.call.proofs.flag.Statement.{statement}
-use Rattle.call.proofs.flag.Tie as tie
+use Rattle.call.proofs.last.flag.Statement.{statement}
+use Rattle.call.proofs.last.flag.Tie as tie
 
 any-free-requires : tie.Need-any-free-requires
 any-free-requires c κs = search needs

@@ -1,4 +1,4 @@
--- `call::handle` meets its contract: its two refusals in their order, then the call.
+-- `call::handled::handle` meets its contract: its two refusals in their order, then the call.
 -- Assumes nothing.
 use borrow.Author.Tests.{le-leb, lt-leb, eq-eqb, ne-eqb}
 use Rattle.rules.specs.Answers.{refuse}
@@ -6,8 +6,8 @@ use Rattle.rules.specs.Call.{handle, with-rcx}
 use Rattle.call.proofs.Chosen.{protocol-is}
 use mir.Facts.{fits-lt-pow}
 use borrow.Author.Needs.{needs}
-use Rattle.call.proofs.handle.Statement.{statement}
-use Rattle.call.proofs.handle.Tie as tie
+use Rattle.call.proofs.handled.handle.Statement.{statement}
+use Rattle.call.proofs.handled.handle.Tie as tie
 
 pending-requires : tie.Need-pending-requires
 pending-requires c κs = search needs
