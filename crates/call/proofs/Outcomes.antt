@@ -2,9 +2,6 @@
 use mathlib.Core.Path.{_≡_}
 use mathlib.Core.Bool.{true, false}
 use Prim.Native.Nat.{ℕ}
-use lib.ListN.{length}
-use borrow.Author.Tests.{eq-eqb}
-use Rattle.rules.specs.Words.{record-size, records}
 use Rattle.rules.specs.declared.Registers.{Registers}
 use Rattle.rules.specs.declared.Code.{Code}
 use Rattle.rules.specs.declared.Outcome.{Outcome}
@@ -12,12 +9,8 @@ use Rattle.rules.specs.declared.Outcome.the-variants.{NoCall, BadMachine}
 use Rattle.rules.specs.Answers.{Answered, refuse}
 use Rattle.rules.specs.Machine.{Machine}
 use Rattle.rules.specs.Call.{Posed, bad-machine, no-call, handle, finish, call}
-use Rattle.rules.specs.Flat.{Buffers, parted, joined, memory-fits, memory-sized, sheet-sized, well-sized, call-bytes}
+use Rattle.rules.specs.Flat.{Buffers, parted, joined, well-sized, call-bytes}
 use Rattle.laws.proofs.FlatLaunch.{joined-parted}
-
-pub well-sized-by : (b : Buffers) → memory-fits (length (b .table)) (length (b .memory)) ≡ true → length (b .sheet) ≡ 512 → well-sized b ≡ true
-unfolding well-sized memory-sized sheet-sized record-size records
-well-sized-by b fits s = rw (fits, eq-eqb _ 512 s)
 
 module _ (caller : ℕ) (g : Registers) (b : Buffers) where
   pub call-unsized : well-sized b ≡ false

@@ -15,8 +15,7 @@ use Rattle.rules.specs.Machine.{Lent, N, below, page-of, page-at, owner, valid,
 use Rattle.rules.specs.Machine.{vcpu, startup}
 use Rattle.rules.specs.Calls.{Asked, asked, unfit-pages, unfit-vcpu, free-record, is-free, any-free, new-record, created, create}
 use Rattle.rules.specs.Flat.{Buffers, parts, parted}
-use Rattle.laws.proofs.Ranges.{exists-lowest}
-use Rattle.laws.proofs.Tested.{or-false}
+use Rattle.laws.proofs.Ranges.{exists-lowest, or-false}
 use Rattle.sheet.specs.Row.{vcpu-in}
 use Rattle.create_call.specs.Fit.{unfit-page}
 

@@ -10,7 +10,6 @@ use Rattle.rules.specs.Flat.{parts}
 use Rattle.rules.specs.declared.Wish.{Wish}
 use Rattle.rules.specs.declared.Wish.the-variants.{Invalid, Valid, Pool}
 use Rattle.laws.proofs.Ranges.{each-append, each-same, each-part, range-snoc}
-use Rattle.laws.proofs.Parts.{length-parts}
 
 -- the machine without its sheet
 abbrev bare : Lent → Lent
@@ -82,7 +81,3 @@ carry-out-apart Pool vmpl p memory table = refl
 pub carry-out-none : (wish : Wish) (vmpl first : ℕ) (m : Lent) → carry-out-all wish vmpl first 0 m ≡ m
 unfolding carry-out-all range each
 carry-out-none wish vmpl first m = refl
-
--- memories of one length have as many pages
-pub same-pages : (memory memory′ : List ℕ) → length memory′ ≡ length memory → length (parts page-size memory′) ≡ length (parts page-size memory)
-same-pages memory memory′ e = length-parts page-size memory′ ∙ ap (λ n. n / page-size) e ∙ sym (length-parts page-size memory)

@@ -33,7 +33,8 @@ plain-at table list p = eqb (owner (getD table p 0)) plain && not (eqb p list)
 abbrev pub machine : List ℕ → Lent
 machine table = record { memory = []; table = table; sheet = [] }
 
-own-page : (list : ℕ) → page-of (page-size * list) ≡ list
+-- the page of its own gPA
+pub own-page : (list : ℕ) → page-of (page-size * list) ≡ list
 unfolding page-of page-size
 own-page list = mul-div-cancel-left list (lit< tt)
 

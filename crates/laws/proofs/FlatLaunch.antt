@@ -4,8 +4,9 @@ use mathlib.Core.Bool.{Bool, true, false, _&&_, _||_, and-eq-true-iff}
 use mathlib.Core.List.{List, [], _∷_}
 use Prim.Native.Nat.{ℕ, _+_, _<_}
 use lib.Dec.{leb, ltb, eqb}
-use borrow.Author.Tests.{leb-false}
+use borrow.Author.Tests.{leb-false, eq-eqb}
 use lib.ListN.{length}
+use Rattle.rules.specs.Words.{record-size, records}
 use Rattle.rules.specs.declared.Plan.{Plan}
 use Rattle.rules.specs.declared.Launched.the-variants.{Made, WrongSize, OutOfRange, AreasMeet, UnfitVmsa}
 use Rattle.rules.specs.Answers.{Answered, refuse}
@@ -13,7 +14,7 @@ use Rattle.rules.specs.Machine.{Lent, N, page-at, write, with-memory}
 use Rattle.rules.specs.Launch.{out-of-range, areas-meet, unfit-vmsa, launch-table, launch-sheet, made, launch}
 use Rattle.rules.specs.Flat.{Buffers, parted, joined, memory-fits, memory-sized, sheet-sized, well-sized, launch-bytes}
 use Rattle.laws.proofs.FlatSteps.{join-memory, join-sheet}
-use Rattle.laws.proofs.Tested.{or-false}
+use Rattle.laws.proofs.Ranges.{or-false}
 
 -- buffers of right size are the join of their parts
 pub joined-parted : (b : Buffers) → well-sized b ≡ true → joined (parted b) ≡ b
@@ -27,6 +28,11 @@ pub same-sizes : (b a : Buffers) → length (a .memory) ≡ length (b .memory) �
     → length (a .sheet) ≡ length (b .sheet) → well-sized a ≡ well-sized b
 unfolding well-sized memory-sized sheet-sized
 same-sizes b a m t s = rw (m, t, s)
+
+-- as the code tests it
+pub well-sized-by : (b : Buffers) → memory-fits (length (b .table)) (length (b .memory)) ≡ true → length (b .sheet) ≡ 512 → well-sized b ≡ true
+unfolding well-sized memory-sized sheet-sized record-size records
+well-sized-by b fits s = rw (fits, eq-eqb _ 512 s)
 
 -- a plan in range names pages below n
 pub in-range : (plan : Plan) (n : ℕ) → out-of-range plan n ≡ false → (plan .vmsa < n) × (plan .calling < n)

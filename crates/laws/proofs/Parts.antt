@@ -18,6 +18,10 @@ module _ {A : Type 0} where
   unfolding parts
   length-parts size l = length-chop (length l / size) size l
 
+  -- buffers of one length have as many parts
+  pub same-parts : (size : ℕ) (l l′ : List A) → length l′ ≡ length l → length (parts size l′) ≡ length (parts size l)
+  same-parts size l l′ e = length-parts size l′ ∙ ap (λ n. n / size) e ∙ sym (length-parts size l)
+
   -- the parts of a buffer that has n of them
   pub parts-chop : (n size : ℕ) (l : List A) → 0 < size → length l ≡ size * n → parts size l ≡ chop n size l
   unfolding parts

@@ -18,6 +18,11 @@ pub by-test : {C : Type 0} (b : Bool) → (b ≡ true → C) → (b ≡ false �
 by-test true passes fails = passes refl
 by-test false passes fails = fails refl
 
+-- where neither of two tests passes, each fails
+pub or-false : (a b : Bool) → (a || b) ≡ false → (a ≡ false) × (b ≡ false)
+or-false true b e = absurd (true≢false e)
+or-false false b e = (refl, e)
+
 -- ---- range
 
 -- the n numbers are n

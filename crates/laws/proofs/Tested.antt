@@ -1,6 +1,6 @@
 -- What the tests of outcome 3 have shown of a machine, once they are passed.
 use mathlib.Core.Path.{_≡_, refl, sym, _∙_}
-use mathlib.Core.Bool.{Bool, true, false, not, _&&_, _||_, true≢false, and-eq-true-iff}
+use mathlib.Core.Bool.{Bool, true, false, not, _&&_, _||_, and-eq-true-iff}
 use mathlib.Core.List.{List, []}
 use Prim.Native.Nat.{ℕ, _*_, _<_, _≤_}
 use native.Mathlib.Omega.{arith}
@@ -14,12 +14,8 @@ use Rattle.rules.specs.Sound.{bad-names, bad-record}
 use Rattle.rules.specs.Call.{bad-sheet, bad-machine}
 use Rattle.rules.specs.Flat.{Buffers, parts, parted, memory-fits, memory-sized, sheet-sized, well-sized}
 use Rattle.laws.proofs.Parts.{length-parts}
-use Rattle.laws.proofs.Ranges.{absent→}
+use Rattle.laws.proofs.Ranges.{or-false, absent→}
 use Rattle.laws.proofs.FlatSteps.{sized-sheet, length-pages}
-
-pub or-false : (a b : Bool) → (a || b) ≡ false → (a ≡ false) × (b ≡ false)
-or-false true b e = absurd (true≢false e)
-or-false false b e = (refl, e)
 
 -- what a call is told: the sizes are right, and the sheet holds nothing that outcome 3 names
 pub record Tested (b : Buffers) (caller : ℕ) : Type 0 where

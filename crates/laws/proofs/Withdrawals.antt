@@ -14,8 +14,7 @@ use Rattle.rules.specs.Machine.{Lent, N, below, page-of, offset-of, table-byte,
 use Rattle.rules.specs.Lists.{bad-list-page}
 use Rattle.rules.specs.Calls.{gpas}
 use Rattle.laws.proofs.Numbers.{length-little}
-use Rattle.laws.proofs.Ranges.{places-append}
-use Rattle.laws.proofs.Tested.{or-false}
+use Rattle.laws.proofs.Ranges.{places-append, or-false}
 
 -- ---- the list page
 

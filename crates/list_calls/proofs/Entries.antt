@@ -5,8 +5,8 @@ use mathlib.Core.Bool.{Bool, true, false, cond, not, _&&_, and-eq-true-iff}
 use mathlib.Core.List.{List, []}
 use Prim.Native.Nat.{ℕ, suc, _+_, _-_, _*_, _/_, _%_, _<_, _≤_}
 use native.Mathlib.Omega.{arith}
-use native.Mathlib.Nat.{mul-div-cancel-left, add-zero}
-use lib.Dec.{eqb, ltb, lit<}
+use native.Mathlib.Nat.{add-zero}
+use lib.Dec.{eqb, ltb}
 use lib.ListN.{length, getD}
 use borrow.Author.Tests.{ltb-true}
 use Rattle.rules.specs.declared.Code.{Code}
@@ -25,17 +25,9 @@ use Rattle.laws.proofs.Ranges.{by-test, every-same, every-range→}
 use Rattle.laws.proofs.FlatLaunch.{same-sizes}
 use Rattle.laws.proofs.Tested.{Tested}
 use Rattle.entries.specs.Reading.{read-at}
-use Rattle.entries.proofs.Reading.{some-pages}
-
--- a machine that has this table
-abbrev machine : List ℕ → Lent
-machine table = record { memory = []; table = table; sheet = [] }
+use Rattle.entries.proofs.Reading.{machine, own-page, some-pages}
 
 -- what an entry reads as goes by the table and the list's page alone
-own-page : (list : ℕ) → page-of (page-size * list) ≡ list
-unfolding page-of page-size
-own-page list = mul-div-cancel-left list (lit< tt)
-
 page-is : (rcx : ℕ) → page-of rcx ≡ rcx / 4096
 unfolding page-of page-size
 page-is rcx = refl

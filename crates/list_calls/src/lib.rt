@@ -77,7 +77,7 @@ fn run(
 {
     let page = (rcx / 4096) as usize;
     let offset = (rcx % 4096) as usize;
-    let vmpl = parts::byte(sheet, 32, caller, 1);
+    let vmpl = parts::byte(sheet, sheet::RECORD_SIZE, caller, sheet::VMPL);
     let mut k = start;
     let mut todo = budget;
     while todo > 0 {
@@ -122,7 +122,7 @@ pub fn list_call(
     if rcx % 8 != 0 {
         return Code::Parameter;
     }
-    let vmpl = parts::byte(sheet, 32, caller, 1);
+    let vmpl = parts::byte(sheet, sheet::RECORD_SIZE, caller, sheet::VMPL);
     if lists::bad_list_page(table, vmpl, rcx) {
         return Code::Address;
     }

@@ -56,11 +56,6 @@ given-step vmpl page at p memory table memory′ table′ memory″ table″ n r
     rw (add-one, places-more is-free table p 0 h)
     (given-more vmpl page at memory table (places is-free 0 (take p table)) (places is-free p (getD table p 0 ∷ [])) memory′ table′ memory″ table″ n r below g (rw same at k))
 
--- a memory of the same length has the same pages
-pub same-pages : (memory memory′ : List ℕ) (page : ℕ) → length memory′ ≡ length memory → page < length (parts page-size memory)
-    → page < length (parts page-size memory′)
-same-pages memory memory′ page e h = rw (length-parts page-size memory′, e, ← length-parts page-size memory) h
-
 module _ (vmpl page at room : ℕ) (memory table memory′ table′ : List ℕ) (n : ℕ) where
   -- all pages passed, and room for those that were free
   pub given-all : (p : ℕ) → length table ≤ p → n ≤ room → Given vmpl page at (places is-free 0 (take p table)) memory table memory′ table′ n

@@ -78,7 +78,7 @@ pub fn withdraw(memory: &mut [u8], table: &mut [u8], sheet: &[u8], caller: usize
     if rcx % 4096 == 0xFF8 {
         return Code::Parameter;
     }
-    let vmpl = parts::byte(sheet, 32, caller, 1);
+    let vmpl = parts::byte(sheet, sheet::RECORD_SIZE, caller, sheet::VMPL);
     if lists::bad_list_page(table, vmpl, rcx) {
         return Code::Address;
     }

@@ -8,9 +8,9 @@ use Rattle.rules.specs.Words.{records, record-size}
 use Rattle.rules.specs.Machine.{N}
 use Rattle.rules.specs.Call.{bad-machine, no-call}
 use Rattle.rules.specs.Flat.{Buffers, parted, memory-sized, sheet-sized, well-sized}
-use Rattle.laws.proofs.FlatLaunch.{same-sizes}
+use Rattle.laws.proofs.FlatLaunch.{well-sized-by, same-sizes}
 use Rattle.laws.proofs.Tested.{caller-below}
-use Rattle.call.proofs.Outcomes.{call-unsized, call-bad, call-none, call-ended, well-sized-by}
+use Rattle.call.proofs.Outcomes.{call-unsized, call-bad, call-none, call-ended}
 use Rattle.call.proofs.call.Statement.{statement}
 use Rattle.call.proofs.call.Tie as tie
 

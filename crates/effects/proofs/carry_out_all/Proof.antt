@@ -11,7 +11,8 @@ use denote.Ref.{now}
 use Rattle.rules.specs.Words.{page-size}
 use Rattle.rules.specs.Flat.{parts}
 use Rattle.rules.specs.Lists.{carry-out-all}
-use Rattle.effects.proofs.Laws.{carry-out-none, carry-out-more, same-pages}
+use Rattle.laws.proofs.Parts.{same-parts}
+use Rattle.effects.proofs.Laws.{carry-out-none, carry-out-more}
 use Rattle.effects.proofs.carry_out_all.Statement.{statement}
 use Rattle.effects.proofs.carry_out_all.Tie as tie
 
@@ -38,7 +39,7 @@ carry-out-requires c κs =
     let pre = c .before .before .before .before .before .before .pre in
     record {
       within = omega (arith, pre .within, l .inv .2, c .before .before .loop-test .taken);
-      pages = same-pages (now (c .before .before .before .before .before .before .args .memory)) (l .memory) (l .inv .3) ∙ pre .pages ∙ sym (l .inv .2);
+      pages = same-parts page-size (now (c .before .before .before .before .before .before .args .memory)) (l .memory) (l .inv .3) ∙ pre .pages ∙ sym (l .inv .2);
     }
 
 add-i : tie.Need-add-i Inv-loop μ-loop

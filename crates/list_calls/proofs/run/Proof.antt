@@ -19,7 +19,8 @@ use Rattle.rules.specs.Lists
 use Rattle.rules.specs.Flat.{Buffers, parts, parted, memory-sized}
 use Rattle.laws.proofs.FlatSteps.{sizes}
 use Rattle.laws.proofs.Tested.{pages-tested, memory-tested, rows-tested, caller-below}
-use Rattle.effects.proofs.Laws.{same-pages, all-after}
+use Rattle.laws.proofs.Parts.{same-parts}
+use Rattle.effects.proofs.Laws.{all-after}
 use Rattle.entries.specs.Reading.{read-at}
 use Rattle.list_calls.proofs.Entries.{run-on, run-refused, reads-within, still-tested}
 use Rattle.list_calls.proofs.run.Statement.{statement}
@@ -65,7 +66,7 @@ number8-requires c κs =
     let caller = start .args .caller in
     let t = start .pre .tested in
     let l = c .before .before .loop in
-    let pages = same-pages (b .memory) (l .memory) (l .inv .1) ∙ pages-tested b caller t in
+    let pages = same-parts page-size (b .memory) (l .memory) (l .inv .1) ∙ pages-tested b caller t in
     record { some = lit< tt; below = omega (arith, start .pre .below); within = omega (arith, start .pre .within, l .inv .3, c .before .loop-test .taken) }
 
 read-requires : tie.Need-read-requires Inv-loop μ-loop
@@ -97,7 +98,7 @@ put-number2-requires c κs =
     let caller = start .args .caller in
     let t = start .pre .tested in
     let l = c .before .before .before .before .before .before .before .before .loop in
-    let pages = same-pages (b .memory) (l .memory) (l .inv .1) ∙ pages-tested b caller t in
+    let pages = same-parts page-size (b .memory) (l .memory) (l .inv .1) ∙ pages-tested b caller t in
     record { some = lit< tt; below = omega (arith, start .pre .below); within = omega (arith, start .pre .within, l .inv .3, c .before .before .before .before .before .before .before .loop-test .taken) }
 
 refusal-requires : tie.Need-refusal-requires Inv-loop μ-loop
@@ -133,7 +134,7 @@ carry-out-all-requires c κs =
     let caller = start .args .caller in
     let t = start .pre .tested in
     let l = c .before .before .before .before .before .before .before .before .before .before .loop in
-    let pages = same-pages (b .memory) (l .memory) (l .inv .1) ∙ pages-tested b caller t in
+    let pages = same-parts page-size (b .memory) (l .memory) (l .inv .1) ∙ pages-tested b caller t in
     record { within = reads-within _ _ _ _ _ _ _ (sym (c .before .before .before .before .before .read .ensures) ∙ c .before .before .before .entry .given .1); pages = pages ∙ sym (l .inv .2) }
 
 add-k : tie.Need-add-k Inv-loop μ-loop

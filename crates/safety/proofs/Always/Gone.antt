@@ -24,10 +24,9 @@ use Rattle.rules.specs.Calls.{remapped, remap, free-record, new-record, created
 use Rattle.rules.specs.Calls.{clear-svme, deleted, named-by, delete, give-back, withdrawn-pages, withdrawn, withdraw, any-free}
 use Rattle.rules.specs.Call.{Posed, bad-sheet, bad-machine, no-call, pending, on-lent, on-rcx, handle, set-flag, finish, call}
 use Rattle.rules.specs.Runs.{called}
-use Rattle.laws.proofs.Ranges.{by-test, each-same}
+use Rattle.laws.proofs.Ranges.{by-test, each-same, or-false}
 use Rattle.laws.proofs.Numbers.{getD-sets-elsewhere}
 use Rattle.laws.proofs.Records.{is-live-laid-out, is-live-remapped}
-use Rattle.laws.proofs.Tested.{or-false}
 use Rattle.safety.specs.Statements.{Left-by-gone, Gone-leaves}
 use Rattle.safety.proofs.Branches.{on-refuse, never, on-handle, run-within-sheet}
 

@@ -15,9 +15,8 @@ use Rattle.rules.specs.declared.Code.the-variants.{Success}
 use Rattle.rules.specs.Answers.{refuse}
 use Rattle.rules.specs.Machine.{Lent, N, owner, valid, permitted, own, revoke, table-byte, put, change, owned-by, usable, page-at, page-of, offset-of, fields, is-live, holds, needs-page, record-at, vcpu, amend}
 use Rattle.rules.specs.Calls.{remapped, remap, Asked, asked, unfit-pages, free-record, is-free, free-page, any-free, created, create, clear-svme, deleted, named-by, delete, withdrawn-pages}
-use Rattle.laws.proofs.Ranges.{by-test, lowest-passes, exists-lowest, places-read, every-take}
+use Rattle.laws.proofs.Ranges.{by-test, lowest-passes, exists-lowest, places-read, every-take, or-false}
 use Rattle.laws.proofs.TableByte.{owner-own, valid-own, permitted-own}
-use Rattle.laws.proofs.Tested.{or-false}
 use Rattle.safety.specs.Statements.{Same-page, in-pool}
 use Rattle.safety.proofs.Branches.{past}
 use Rattle.safety.proofs.Kept.Sealed.{beyond, owner-zero}

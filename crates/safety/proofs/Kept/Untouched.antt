@@ -22,8 +22,7 @@ use Rattle.rules.specs.Machine.{Lent, with-memory, written, write, fill, owner,
 use Rattle.rules.specs.Lists.{bad-list-page, store-index, covered, entry-first, entry-pages, malformed, coverable, read-covered, read-entry, wished, cleared, carry-out, carry-out-all}
 use Rattle.rules.specs.Lists.{after-entry, list-count, list-next, list-entry, run, run-within, list-call, bad-count, bad-next}
 use Rattle.rules.specs.Calls.{give-back, withdrawn-pages, withdrawn, withdraw}
-use Rattle.laws.proofs.Ranges.{by-test}
-use Rattle.laws.proofs.Tested.{or-false}
+use Rattle.laws.proofs.Ranges.{by-test, or-false}
 use Rattle.safety.proofs.Branches.{past}
 
 -- page p has the bytes and the table byte that it had

@@ -16,9 +16,8 @@ use Rattle.rules.specs.Sound.{sound}
 use Rattle.rules.specs.Lists.{bad-list-page, in-list}
 use Rattle.rules.specs.Calls.{any-free}
 use Rattle.rules.specs.Call.{clear-pending, set-flag}
-use Rattle.laws.proofs.Ranges.{by-test}
+use Rattle.laws.proofs.Ranges.{by-test, or-false}
 use Rattle.laws.proofs.Numbers.{number-elsewhere, number-written}
-use Rattle.laws.proofs.Tested.{or-false}
 use Rattle.safety.specs.Statements.{last-writes}
 use Rattle.safety.proofs.Pool.Named.{calling-owner}
 

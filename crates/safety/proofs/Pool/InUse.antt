@@ -12,9 +12,8 @@ use borrow.Author.Tests.{eqb-true, lt-leb, not-false}
 use Rattle.rules.specs.Words.{records, records-without-pool, record-size, least-pages, most-pages, between, range, every, exists, count}
 use Rattle.rules.specs.Machine.{Lent, N, owner, pool-in-use, table-byte, fields, is-live, holds, needs-page, record-at, vcpu}
 use Rattle.rules.specs.Sound.{claim, claims, agrees, bad-record, live-fault, record-fault, table-sized, sound}
-use Rattle.laws.proofs.Ranges.{by-test, exists-append, rising-range, rising→outside}
+use Rattle.laws.proofs.Ranges.{by-test, exists-append, rising-range, rising→outside, or-false}
 use Rattle.laws.proofs.Counts.{one, one-le, count-cons, count-none}
-use Rattle.laws.proofs.Tested.{or-false}
 use Rattle.safety.specs.Statements.{in-use}
 use Rattle.safety.proofs.Sound.Facts.{open-sound}
 

@@ -10,8 +10,8 @@ use borrow.Author.Tests.{eqb-true, eq-eqb}
 use Rattle.rules.specs.Words.{records, exists}
 use Rattle.rules.specs.Machine.{Lent, N, owner, calling-area, pool-in-use, vmsa-area, table-byte, fields, is-live, holds, record-at, vcpu}
 use Rattle.rules.specs.Sound.{claim, claims, agrees, bad-record, record-fault, sound}
-use Rattle.laws.proofs.Ranges.{by-test, exists-append}
-use Rattle.laws.proofs.Tested.{or-false, Names, names}
+use Rattle.laws.proofs.Ranges.{by-test, exists-append, or-false}
+use Rattle.laws.proofs.Tested.{Names, names}
 use Rattle.safety.proofs.Sound.Facts.{open-sound}
 use Rattle.safety.proofs.Pool.InUse.{sheet-length}
 

@@ -15,9 +15,8 @@ use Rattle.rules.specs.Sound.{sound}
 use Rattle.rules.specs.Calls.{remapped, remap, Asked, asked, unfit-pages, unfit-vcpu, free-record, free-page, any-free, is-free, created, create}
 use Rattle.rules.specs.Calls.{clear-svme, deleted, named-by, delete}
 use Rattle.rules.specs.Runs.{pool}
-use Rattle.laws.proofs.Ranges.{by-test, lowest-passes, exists-lowest}
+use Rattle.laws.proofs.Ranges.{by-test, lowest-passes, exists-lowest, or-false}
 use Rattle.laws.proofs.TableByte.{owner-own, owner-grant}
-use Rattle.laws.proofs.Tested.{or-false}
 use Rattle.safety.proofs.Pool.InUse.{sheet-length}
 use Rattle.safety.proofs.Pool.Counts.{pooled, pool-write, pool-amend, pool-change, byte-change-other, N-change, byte-write, N-write}
 use Rattle.safety.proofs.Pool.Named.{live-names, vmsa-owner, calling-owner, pool-owner}

@@ -24,8 +24,7 @@ use Rattle.rules.specs.Calls.{withdrawn-pages, withdrawn, withdraw}
 use Rattle.rules.specs.Call.{Posed, with-rax, bad-sheet, bad-machine, pending, no-call, protocol, call-number, on-lent, on-rcx, dispatch, handle}
 use Rattle.rules.specs.Call.{clear-pending, set-flag, finish, call}
 use Rattle.rules.specs.Runs.{Step, calls, stores, marks, called, step, pool, handled-as, head-accepted, pages-listed, taken-in, given-back}
-use Rattle.laws.proofs.Ranges.{by-test, every→}
-use Rattle.laws.proofs.Tested.{or-false}
+use Rattle.laws.proofs.Ranges.{by-test, every→, or-false}
 use Rattle.laws.proofs.Withdrawals.{list-page-below}
 use Rattle.safety.specs.Statements.{last-writes}
 use Rattle.safety.proofs.Sound.Facts.{open-sound}

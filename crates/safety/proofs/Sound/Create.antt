@@ -15,9 +15,8 @@ use Rattle.rules.specs.Machine.{fields, is-live, holds, needs-page, record-at, 
 use Rattle.rules.specs.Launch.{unfit-vmsa}
 use Rattle.rules.specs.Sound.{claim, claims, agrees, record-fault}
 use Rattle.rules.specs.Calls.{Asked, asked, unfit-pages, unfit-vcpu, free-record, is-free, free-page, any-free, new-record, created, create}
-use Rattle.laws.proofs.Ranges.{by-test, lowest-passes, exists-lowest, absent→}
+use Rattle.laws.proofs.Ranges.{by-test, lowest-passes, exists-lowest, absent→, or-false}
 use Rattle.laws.proofs.Records.{length-laid-out, fields-laid-out}
-use Rattle.laws.proofs.Tested.{or-false}
 use Rattle.safety.proofs.Sound.Facts.{Page-right, Sound}
 use Rattle.safety.proofs.Sound.Claims.{says, claim-dead, claim-live, claims-same, claims-alone, nameable, unclaimed-alone}
 use Rattle.safety.proofs.Sound.Rows.{few-pages, in-sheet, sheet-length, has-apic, close-row, open-dead, row-right, count-kept, count-new}

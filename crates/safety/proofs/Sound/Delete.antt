@@ -14,10 +14,9 @@ use Rattle.rules.specs.Machine.{Lent, N, page-of, with-memory, write, zeros, ow
 use Rattle.rules.specs.Machine.{fields, is-live, holds, record-at, vcpu, startup, amend}
 use Rattle.rules.specs.Sound.{claim, claims, agrees, pages-sized}
 use Rattle.rules.specs.Calls.{clear-svme, deleted, named-by, delete}
-use Rattle.laws.proofs.Ranges.{by-test, lowest-passes}
+use Rattle.laws.proofs.Ranges.{by-test, lowest-passes, or-false}
 use Rattle.laws.proofs.Numbers.{length-zeros}
 use Rattle.laws.proofs.Records.{is-live-zeros}
-use Rattle.laws.proofs.Tested.{or-false}
 use Rattle.safety.proofs.Sound.Facts.{Page-right, Sound}
 use Rattle.safety.proofs.Sound.Claims.{claim-dead, claim-other, claims-same, claims-alone}
 use Rattle.safety.proofs.Sound.Rows.{in-sheet, sheet-length, has-apic, close-dead, startup-range, row-right, vmsa-below, calling-below, pool-below}

@@ -19,10 +19,9 @@ use Rattle.rules.specs.Machine.{record-at, vcpu, startup, vmsa-vmpl, efer}
 use Rattle.rules.specs.Sound.{bad-names, bad-record, claim, claims, agrees, live-fault, record-fault, table-sized, pages-sized, sound}
 use Rattle.rules.specs.Launch.{in-monitor, out-of-range, areas-meet, unfit-vmsa, launch-byte, launch-table, launch-record, launch-sheet, made, launch}
 use Rattle.laws.proofs.Numbers.{number-little-fits, zeros-at, length-zeros}
-use Rattle.laws.proofs.Ranges.{by-test, length-range, →every}
+use Rattle.laws.proofs.Ranges.{by-test, length-range, →every, or-false}
 use Rattle.laws.proofs.Records.{length-laid-out, fields-zeros, is-live-zeros}
 use Rattle.laws.proofs.FlatLaunch.{in-range}
-use Rattle.laws.proofs.Tested.{or-false}
 use Rattle.safety.specs.Statements.{Launched-sound}
 use Rattle.safety.proofs.Sound.Facts.{Page-right, Sound, close-sound}
 use Rattle.safety.proofs.Sound.OnePage.{write-sound, right-open, right-sealed, right-invalid}

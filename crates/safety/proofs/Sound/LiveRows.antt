@@ -11,8 +11,8 @@ use Rattle.rules.specs.declared.Vcpu.{Vcpu}
 use Rattle.rules.specs.Words.{records, record-size, least-pages, most-pages, between, every, count}
 use Rattle.rules.specs.Machine.{Lent, N, fields, is-live, needs-page, record-at, vcpu, startup}
 use Rattle.rules.specs.Sound.{bad-record, live-fault, record-fault, table-sized}
-use Rattle.laws.proofs.Ranges.{by-test, every→}
-use Rattle.laws.proofs.Tested.{or-false, Names, names}
+use Rattle.laws.proofs.Ranges.{by-test, every→, or-false}
+use Rattle.laws.proofs.Tested.{Names, names}
 use Rattle.safety.proofs.Sound.Facts.{Sound}
 
 -- what is said of a live record beyond what outcome 3 names

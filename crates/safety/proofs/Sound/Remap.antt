@@ -15,9 +15,8 @@ use Rattle.rules.specs.Machine.{Lent, N, page-of, owner, valid, own, table-byte
 use Rattle.rules.specs.Machine.{fields, is-live, holds, record-at, vcpu, startup, amend}
 use Rattle.rules.specs.Sound.{claim, claims, agrees, record-fault, pages-sized}
 use Rattle.rules.specs.Calls.{remapped, remap}
-use Rattle.laws.proofs.Ranges.{by-test}
+use Rattle.laws.proofs.Ranges.{by-test, or-false}
 use Rattle.laws.proofs.Records.{fields-remapped, is-live-remapped, holds-remapped}
-use Rattle.laws.proofs.Tested.{or-false}
 use Rattle.safety.proofs.Sound.Facts.{Page-right, Sound}
 use Rattle.safety.proofs.Sound.Claims.{says, claim-live, claims-same, claims-alone, nameable, unclaimed-alone}
 use Rattle.safety.proofs.Sound.Rows.{few-pages, in-sheet, record-length, has-apic, close-row, row-right, calling-below, calling-owned, calling-alone}

@@ -13,11 +13,11 @@ use Rattle.rules.specs.Words.{between, records, record-size, least-pages, most-
 use Rattle.rules.specs.declared.Vcpu.{Vcpu}
 use Rattle.rules.specs.Machine.{Lent, N, owner, table-byte, fields, is-live, holds, needs-page, record-at, vcpu, startup, zeros}
 use Rattle.rules.specs.Sound.{claim, claims, bad-names, bad-record, live-fault, record-fault, table-sized}
-use Rattle.laws.proofs.Ranges.{by-test, every→, →exists, absent→}
+use Rattle.laws.proofs.Ranges.{by-test, every→, →exists, absent→, or-false}
 use Rattle.laws.proofs.Counts.{one, one-le, count-set, exists-count, count-none}
 use Rattle.laws.proofs.Numbers.{length-zeros, zeros-at}
 use Rattle.laws.proofs.Records.{fields-zeros, is-live-zeros}
-use Rattle.laws.proofs.Tested.{or-false, Names, names}
+use Rattle.laws.proofs.Tested.{Names, names}
 use Rattle.safety.proofs.Sound.Facts.{Sound}
 use Rattle.safety.proofs.Sound.Claims.{claim-vmsa, claim-calling, claim-pool, claimed-owner, claimed-alone, claimed-once}
 

@@ -19,8 +19,7 @@ use Rattle.rules.specs.Lists.{list-call}
 use Rattle.rules.specs.Calls.{any-free, remap, create, delete, withdraw}
 use Rattle.rules.specs.Call.{Posed, bad-sheet, bad-machine, no-call, pending, protocol, call-number, on-lent, on-rcx, dispatch, handle, clear-pending, set-flag, finish, call}
 use Rattle.rules.specs.Runs.{Step, calls, stores, marks, called, step, run-steps}
-use Rattle.laws.proofs.Ranges.{by-test}
-use Rattle.laws.proofs.Tested.{or-false}
+use Rattle.laws.proofs.Ranges.{by-test, or-false}
 use Rattle.safety.specs.Statements.{Stays-sound}
 use Rattle.safety.proofs.Branches.{past, on-handle}
 use Rattle.safety.proofs.Sound.Facts.{Sound, open-sound, close-sound}

@@ -14,10 +14,9 @@ use Rattle.rules.specs.Answers.{refuse}
 use Rattle.rules.specs.Machine.{Lent, N, table-byte, fields, is-live, holds, record-at, vcpu, startup, amend}
 use Rattle.rules.specs.Sound.{bad-names, bad-record, claim, claims, live-fault, record-fault, table-sized, pages-sized}
 use Rattle.rules.specs.Steps.{store, may-mark, mark}
-use Rattle.laws.proofs.Ranges.{by-test}
+use Rattle.laws.proofs.Ranges.{by-test, or-false}
 use Rattle.laws.proofs.Counts.{count-set}
 use Rattle.laws.proofs.Records.{fields-marked, is-live-marked}
-use Rattle.laws.proofs.Tested.{or-false}
 use Rattle.safety.proofs.Sound.Facts.{Page-right, Sound}
 use Rattle.safety.proofs.Sound.OnePage.{every-set, write-sound, refused-sound}
 use Rattle.safety.proofs.Sound.LiveRows.{not-bad, no-live-fault, sheet-length, record-length}

@@ -9,7 +9,8 @@ use denote.Ref.{now}
 use Rattle.rules.specs.Words.{page-size, places}
 use Rattle.rules.specs.Calls.{is-free}
 use Rattle.withdraw_call.specs.Given.{Given}
-use Rattle.withdraw_call.proofs.Giving.{given-none, given-all, given-full, one-place, given-step, same-pages}
+use Rattle.laws.proofs.Parts.{same-parts}
+use Rattle.withdraw_call.proofs.Giving.{given-none, given-all, given-full, one-place, given-step}
 use Rattle.withdraw_call.proofs.give_pages.Statement.{statement}
 use Rattle.withdraw_call.proofs.give_pages.Tie as tie
 
@@ -53,7 +54,7 @@ give-back-requires c κs =
     let a = c .before .before .before .before .before .before .before .args in
     let pre = c .before .before .before .before .before .before .before .pre in (
       record {
-        below = same-pages (now (a .memory)) (l .memory) (a .page) (l .inv .4) (pre .below);
+        below = rw (same-parts page-size (now (a .memory)) (l .memory) (l .inv .4)) (pre .below);
         within = omega (arith, pre .within, c .before .before .if1 .left);
         most = rw (l .inv .3) (pre .most);
       },

@@ -15,7 +15,8 @@ use Rattle.rules.specs.Flat.{Buffers, memory-sized}
 use Rattle.laws.proofs.FlatSteps.{sizes}
 use Rattle.laws.proofs.Tested.{memory-tested, rows-tested, caller-below}
 use Rattle.lists.proofs.Page.{vmpl-is, bad-page-is, page-within}
-use Rattle.withdraw_call.proofs.Giving.{same-pages, take-most, withdrawn-is}
+use Rattle.laws.proofs.Parts.{same-parts}
+use Rattle.withdraw_call.proofs.Giving.{take-most, withdrawn-is}
 use borrow.Author.Needs.{needs}
 use Rattle.withdraw_call.proofs.withdraw.Statement.{statement}
 use Rattle.withdraw_call.proofs.withdraw.Tie as tie
@@ -92,7 +93,7 @@ put-number2-requires c κs =
     let r = c .before .before .before .before .before .give-pages in
     record {
       some = lit< tt;
-      below = same-pages (now (a .memory)) (r .last .0) (a .rcx / 4096) (r .kept .0) (page-within (a .caller) (a .rcx) b v t good);
+      below = rw (same-parts page-size (now (a .memory)) (r .last .0) (r .kept .0)) (page-within (a .caller) (a .rcx) b v t good);
       within = omega (arith, c .before .before .before .before .before .before .before .before .before .before .before .before .before .if1 .left);
     }
 

@@ -10,14 +10,10 @@ use Rattle.rules.specs.Words.{records, record-size}
 use Rattle.rules.specs.Machine.{N, page-at}
 use Rattle.rules.specs.Flat.{Buffers, parted, memory-fits, memory-sized, sheet-sized, well-sized}
 use Rattle.laws.proofs.FlatSteps.{sizes, length-pages}
-use Rattle.laws.proofs.FlatLaunch.{same-sizes, in-range, launch-unsized, launch-out-of-range, launch-areas-meet, launch-unfit, launch-made}
+use Rattle.laws.proofs.FlatLaunch.{well-sized-by, same-sizes, in-range, launch-unsized, launch-out-of-range, launch-areas-meet, launch-unfit, launch-made}
 use borrow.Author.Needs.{needs}
 use Rattle.monitor.proofs.launch.launch.Statement.{statement}
 use Rattle.monitor.proofs.launch.launch.Tie as tie
-
-sized : (b : Buffers) → memory-fits (length (b .table)) (length (b .memory)) ≡ true → length (b .sheet) ≡ 512 → well-sized b ≡ true
-unfolding well-sized memory-sized sheet-sized record-size records
-sized b fits s = rw (fits, eq-eqb _ 512 s)
 
 fits-requires : tie.Need-fits-requires
 fits-requires c κs = search needs
@@ -35,7 +31,7 @@ returns-3 c =
     let a = c .before .before .before .before .before .before .before .args in
     let b : Buffers = record { memory = now (a .memory); table = now (a .table); sheet = now (a .sheet) } in
     let fits = sym (c .before .before .before .fits2 .ensures) ∙ not-false _ (c .before .before .if1 .left) in
-    launch-unsized _ _ _ (rw (sized b fits (c .before .if2 .left), ne-eqb _ _ (c .if3 .taken)))
+    launch-unsized _ _ _ (rw (well-sized-by b fits (c .before .if2 .left), ne-eqb _ _ (c .if3 .taken)))
 
 out-of-range-requires : tie.Need-out-of-range-requires
 out-of-range-requires c κs = search needs
@@ -47,7 +43,7 @@ returns-4 c =
     let b : Buffers = record { memory = now (a .memory); table = now (a .table); sheet = now (a .sheet) } in
     let fits = sym (c .before .before .before .before .before .fits2 .ensures) ∙ not-false _ (c .before .before .before .before .if1 .left) in
     let told = eq-eqb _ _ (c .before .before .if3 .left) in
-    launch-out-of-range _ _ _ (sized b fits (c .before .before .before .if2 .left)) told (sym (c .before .out-of-range .ensures) ∙ c .if4 .taken)
+    launch-out-of-range _ _ _ (well-sized-by b fits (c .before .before .before .if2 .left)) told (sym (c .before .out-of-range .ensures) ∙ c .if4 .taken)
 
 areas-meet-requires : tie.Need-areas-meet-requires
 areas-meet-requires c κs = search needs
@@ -60,7 +56,7 @@ returns-5 c =
     let fits = sym (c .before .before .before .before .before .before .before .fits2 .ensures) ∙ not-false _ (c .before .before .before .before .before .before .if1 .left) in
     let told = eq-eqb _ _ (c .before .before .before .before .if3 .left) in
     let within = sym (c .before .before .before .out-of-range .ensures) ∙ c .before .before .if4 .left in
-    launch-areas-meet _ _ _ (sized b fits (c .before .before .before .before .before .if2 .left)) told within (sym (c .before .areas-meet .ensures) ∙ c .if5 .taken)
+    launch-areas-meet _ _ _ (well-sized-by b fits (c .before .before .before .before .before .if2 .left)) told within (sym (c .before .areas-meet .ensures) ∙ c .if5 .taken)
 
 is-unfit-requires : tie.Need-is-unfit-requires
 unfolding memory-sized
@@ -83,7 +79,7 @@ returns-6 c =
     let told = eq-eqb _ _ (c .before .before .before .before .before .before .before .if3 .left) in
     let within = sym (c .before .before .before .before .before .before .out-of-range .ensures) ∙ c .before .before .before .before .before .if4 .left in
     let apart = sym (c .before .before .before .before .areas-meet .ensures) ∙ c .before .before .before .if5 .left in
-    launch-unfit _ _ _ (sized b fits (c .before .before .before .before .before .before .before .before .if2 .left)) told within apart (sym (c .before .is-unfit .ensures) ∙ c .if6 .taken)
+    launch-unfit _ _ _ (well-sized-by b fits (c .before .before .before .before .before .before .before .before .if2 .left)) told within apart (sym (c .before .is-unfit .ensures) ∙ c .if6 .taken)
 
 make-requires : tie.Need-make-requires
 unfolding memory-sized records record-size
@@ -114,7 +110,7 @@ returns-7 c =
     let told = eq-eqb _ _ (c .before .before .before .before .before .before .before .before .before .before .before .before .before .before .before .before .before .if3 .left) in
     let within = sym (c .before .before .before .before .before .before .before .before .before .before .before .before .before .before .before .before .out-of-range .ensures) ∙ c .before .before .before .before .before .before .before .before .before .before .before .before .before .before .before .if4 .left in
     let apart = sym (c .before .before .before .before .before .before .before .before .before .before .before .before .before .before .areas-meet .ensures) ∙ c .before .before .before .before .before .before .before .before .before .before .before .before .before .if5 .left in
-    let s = sized b fits (c .before .before .before .before .before .before .before .before .before .before .before .before .before .before .before .before .before .before .if2 .left) in
+    let s = well-sized-by b fits (c .before .before .before .before .before .before .before .before .before .before .before .before .before .before .before .before .before .before .if2 .left) in
     let kept = c .before .before .before .before .before .before .make .kept in
     launch-made _ _ _ s told within apart _ (sym (c .before .before .before .before .before .before .before .before .before .before .before .is-unfit .ensures) ∙ c .before .before .before .before .before .before .before .before .before .before .if6 .left) (same-sizes b _ (kept .0) (kept .1 .0) (kept .1 .1 .0) ∙ s)
     (c .before .before .before .before .before .before .make .ensures)
