@@ -1,5 +1,7 @@
 // The door for a host written in Rust or C: numbers and byte buffers only. Each function hands over to the monitor's and answers the paper's
 // number. None has a `requires`: any size and any number is answered. Nothing is assumed.
+pub mod in_place;
+
 ghost use mathlib.Core.Path.{_≡_};
 ghost use lib.ListN.{length};
 ghost use Rattle.rules.specs.Words.{registers-size};

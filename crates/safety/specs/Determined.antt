@@ -23,7 +23,7 @@ Store-determined = (c p offset : ℕ) (bytes table memory : List ℕ) → Determ
 unfoldable pub Mark-determined : Type 0
 Mark-determined = (i value : ℕ) (sheet : List ℕ) → Determined (mark-bytes i value sheet)
 
--- `call::call`: the outcome, the registers, memory, table and sheet
+-- `call::call`, and `door::in_place::call`, whose promise is the same: the outcome, the registers, memory, table and sheet
 unfoldable pub Call-determined : Type 0
 Call-determined = (caller : ℕ) (s : Posed Registers Buffers) → Determined (call-bytes caller s)
 
