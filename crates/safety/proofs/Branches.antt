@@ -1,26 +1,24 @@
--- What holds of every branch of a test, of a refusal and of a call's handling holds of the whole; and what a run over a list leaves of the sheet.
-use mathlib.Core.Path.{_≡_, refl, _∙_, ap}
-use mathlib.Core.Bool.{Bool, true, false, cond}
-use Prim.Native.Nat.{ℕ, zero, suc}
+-- What holds of every branch of a test, of a refusal and of a call's handling holds of the whole.
+use mathlib.Core.Path.{_≡_, refl, ap}
+use mathlib.Core.Bool.{Bool, true, false, cond, true≢false}
+use Prim.Native.Nat.{ℕ, suc, _≤_, zero-le}
+use native.Mathlib.Omega.{arith}
 use lib.Dec.{eqb}
-use borrow.Author.Tests.{eqb-true, eqb-false, not-false}
+use borrow.Author.Tests.{eqb-true, eqb-false, not-true, not-false}
 use Rattle.rules.specs.declared.Registers.{Registers}
 use Rattle.rules.specs.declared.Outcome.{Outcome}
 use Rattle.rules.specs.declared.Code.{Code}
 use Rattle.rules.specs.declared.Code.the-variants.{Success, UnknownProtocol, UnknownCall, BadPending}
-use Rattle.rules.specs.declared.Entry.{Entry}
-use Rattle.rules.specs.declared.Entry.the-variants.{Reads, Unread}
-use Rattle.rules.specs.declared.ListCall.{ListCall}
 use Rattle.rules.specs.declared.ListCall.the-variants.{Pvalidate, Deposit}
-use Rattle.rules.specs.declared.Wish.{Wish}
-use Rattle.rules.specs.declared.Wish.the-variants.{Invalid, Valid, Pool}
 use Rattle.rules.specs.Answers.{Answered, refuse, outcome-number}
-use Rattle.rules.specs.Words.{range, entries-a-call}
-use Rattle.rules.specs.Machine.{Lent, Machine, with-memory, write, fill, put}
-use Rattle.rules.specs.Lists.{list-entry, store-index, read-entry, cleared, carry-out, carry-out-all, after-entry, run, run-within, list-call}
+use Rattle.rules.specs.Words.{entries-a-call}
+use Rattle.rules.specs.Machine.{Machine}
+use Rattle.rules.specs.Lists.{list-call}
 use Rattle.rules.specs.Calls.{remap, create, delete, withdraw, query, vtom}
-use Rattle.rules.specs.Call.{Posed, protocol, call-number, on-lent, on-rcx, dispatch, handle}
-use Rattle.laws.proofs.Ranges.{each-same}
+use Rattle.rules.specs.Call.{Posed, bad-machine, no-call, protocol, call-number, on-lent, on-rcx, dispatch, handle, finish, call}
+use Rattle.rules.specs.Runs.{called}
+use Rattle.laws.proofs.Ranges.{by-test}
+use Rattle.safety.specs.Statements.{unreal}
 
 -- a test, and what it decides between
 pub on-test : {A : Type 0} (P : A → Type 0) (t : Bool) (x y : A) → (t ≡ true → P x) → (t ≡ false → P y) → P (cond t x y)
@@ -47,19 +45,19 @@ pub record Asks (n : ℕ) (g : Registers) : Type 0 where
   pub spoken : protocol g ≡ 0
   pub number : call-number g ≡ n
 
--- what a call is handled as: refused at once, or one of the eight, or unknown
+-- what a call is handled as: refused at once, or one of the eight, or unknown; each with the number that RAX asked for
 pub record Handlings (caller : ℕ) (s : Posed Registers Machine) (P : Answered Code (Posed Registers Machine) → Type 0) : Type 0 where
   pub bad-pending : P (record { answer = BadPending; after = s })
-  pub unknown-protocol : P (record { answer = UnknownProtocol; after = s })
-  pub remaps : P (on-lent (remap caller (s .registers .rcx) (s .machine .lent)) s)
+  pub unknown-protocol : eqb (protocol (s .registers)) 0 ≡ false → P (record { answer = UnknownProtocol; after = s })
+  pub remaps : Asks 0 (s .registers) → P (on-lent (remap caller (s .registers .rcx) (s .machine .lent)) s)
   pub validates : Asks 1 (s .registers) → P (on-lent (list-call entries-a-call Pvalidate caller (s .registers .rcx) (s .machine .lent)) s)
-  pub creates : P (on-lent (create caller (s .registers .rcx) (s .registers .rdx) (s .registers .r8) (s .machine .lent)) s)
+  pub creates : Asks 2 (s .registers) → P (on-lent (create caller (s .registers .rcx) (s .registers .rdx) (s .registers .r8) (s .machine .lent)) s)
   pub deletes : Asks 3 (s .registers) → P (on-lent (delete caller (s .registers .rcx) (s .machine .lent)) s)
   pub deposits : Asks 4 (s .registers) → P (on-lent (list-call entries-a-call Deposit caller (s .registers .rcx) (s .machine .lent)) s)
   pub withdraws : Asks 5 (s .registers) → P (on-lent (withdraw caller (s .registers .rcx) (s .machine .lent)) s)
-  pub queries : P (on-rcx (record { answer = Success; after = query (s .registers .rcx) }) s)
-  pub configures : P (on-rcx (vtom (s .registers .rcx)) s)
-  pub unknown-call : P (record { answer = UnknownCall; after = s })
+  pub queries : Asks 6 (s .registers) → P (on-rcx (record { answer = Success; after = query (s .registers .rcx) }) s)
+  pub configures : Asks 7 (s .registers) → P (on-rcx (vtom (s .registers .rcx)) s)
+  pub unknown-call : 8 ≤ call-number (s .registers) → P (record { answer = UnknownCall; after = s })
 
 module _ (caller : ℕ) (s : Posed Registers Machine) (P : Answered Code (Posed Registers Machine) → Type 0) (h : Handlings caller s P) where
   dispatched : protocol (s .registers) ≡ 0 → P (dispatch caller s)
@@ -67,47 +65,36 @@ module _ (caller : ℕ) (s : Posed Registers Machine) (P : Answered Code (Posed 
   dispatched e =
       let n = call-number (s .registers) in
       let asks : (k : ℕ) → eqb n k ≡ true → Asks k (s .registers) = λ k t. record { spoken = e; number = eqb-true n k t } in
-      on-test P (eqb n 0) _ _ (λ t. h .remaps)
-      (λ t. on-test P (eqb n 1) _ _ (λ t. h .validates (asks 1 t))
-      (λ t. on-test P (eqb n 2) _ _ (λ t. h .creates)
-      (λ t. on-test P (eqb n 3) _ _ (λ t. h .deletes (asks 3 t))
-      (λ t. on-test P (eqb n 4) _ _ (λ t. h .deposits (asks 4 t))
-      (λ t. on-test P (eqb n 5) _ _ (λ t. h .withdraws (asks 5 t))
-      (λ t. on-test P (eqb n 6) _ _ (λ t. h .queries) (λ t. on-test P (eqb n 7) _ _ (λ t. h .configures) (λ t. h .unknown-call))))))))
+      let up : (k : ℕ) → k ≤ n → eqb n k ≡ false → suc k ≤ n = λ k l e. omega (arith, eqb-false n k e) in
+      on-test P (eqb n 0) _ _ (λ t. h .remaps (asks 0 t))
+      (λ n0. on-test P (eqb n 1) _ _ (λ t. h .validates (asks 1 t))
+      (λ n1. on-test P (eqb n 2) _ _ (λ t. h .creates (asks 2 t))
+      (λ n2. on-test P (eqb n 3) _ _ (λ t. h .deletes (asks 3 t))
+      (λ n3. on-test P (eqb n 4) _ _ (λ t. h .deposits (asks 4 t))
+      (λ n4. on-test P (eqb n 5) _ _ (λ t. h .withdraws (asks 5 t))
+      (λ n5. on-test P (eqb n 6) _ _ (λ t. h .queries (asks 6 t))
+      (λ n6. on-test P (eqb n 7) _ _ (λ t. h .configures (asks 7 t))
+      (λ n7. h .unknown-call (up 7 (up 6 (up 5 (up 4 (up 3 (up 2 (up 1 (up 0 zero-le n0) n1) n2) n3) n4) n5) n6) n7)))))))))
 
   -- what holds of each holds of the call
   pub on-handle : P (handle caller s)
   unfolding handle
   on-handle =
       on-refuse P _ _ _ _ (λ t. h .bad-pending)
-      (λ t. on-refuse P _ _ _ _ (λ t. h .unknown-protocol) (λ t. dispatched (eqb-true _ 0 (not-false (eqb (protocol (s .registers)) 0) t))))
+      (λ t. on-refuse P _ _ _ _ (λ u. h .unknown-protocol (not-true _ u))
+      (λ u. dispatched (eqb-true _ 0 (not-false (eqb (protocol (s .registers)) 0) u))))
 
--- an entry leaves the sheet as it was
-carry-out-sheet : (wish : Wish) (vmpl p : ℕ) (m : Lent) → carry-out wish vmpl p m .sheet ≡ m .sheet
-unfolding carry-out cleared put fill with-memory
-carry-out-sheet Invalid vmpl p m = refl
-carry-out-sheet Valid vmpl p m = refl
-carry-out-sheet Pool vmpl p m = refl
+-- a call that is one comes to the end of its handling
+pub called-real : (caller : ℕ) (g : Registers) (m : Machine) → bad-machine caller (m .lent) ≡ false → no-call caller g (m .lent) ≡ false
+    → called caller g m ≡ finish caller g (handle caller (record { registers = g; machine = m }))
+unfolding called call refuse
+called-real caller g m good real = rw (good, real)
 
-carry-out-all-sheet : (wish : Wish) (vmpl first n : ℕ) (m : Lent) → carry-out-all wish vmpl first n m .sheet ≡ m .sheet
-unfolding carry-out-all
-carry-out-all-sheet wish vmpl first n m = each-same (λ m. m .sheet) (carry-out wish vmpl) (carry-out-sheet wish vmpl) (range first n) m
-
-after-entry-sheet : (e : Entry) (caller rcx k : ℕ) (go-on : Lent → Answered Code Lent) (m : Lent)
-    → ((now : Lent) → go-on now .after .sheet ≡ now .sheet) → after-entry e caller rcx k go-on m .after .sheet ≡ m .sheet
-unfolding after-entry store-index write with-memory
-after-entry-sheet (Reads first n wish) caller rcx k go-on m same = same _ ∙ carry-out-all-sheet wish _ first n m
-after-entry-sheet (Unread code) caller rcx k go-on m same = refl
-
--- and so does a run
-pub run-sheet : (call : ListCall) (caller rcx todo k : ℕ) (m : Lent) → run call caller rcx todo k m .after .sheet ≡ m .sheet
-unfolding run store-index write with-memory
-run-sheet call caller rcx zero k m = refl
-run-sheet call caller rcx (suc todo) k m =
-    after-entry-sheet (read-entry call caller rcx (list-entry k rcx m) m) caller rcx k (run call caller rcx todo (suc k)) m
-    (run-sheet call caller rcx todo (suc k))
-
--- whatever its budget
-pub run-within-sheet : (budget : ℕ) (call : ListCall) (caller rcx : ℕ) (m : Lent) → run-within budget call caller rcx m .after .sheet ≡ m .sheet
-unfolding run-within
-run-within-sheet budget call caller rcx m = run-sheet call caller rcx _ _ m
+-- a call with another outcome than no call and bad machine is one
+pub real-call : (caller : ℕ) (g : Registers) (m : Machine) → unreal (called caller g m .answer) ≡ false
+    → (bad-machine caller (m .lent) ≡ false) × (no-call caller g (m .lent) ≡ false)
+unfolding called call refuse unreal
+real-call caller g m h =
+    by-test (bad-machine caller (m .lent))
+    (λ t. absurd (true≢false (rw t at h)))
+    (λ t. by-test (no-call caller g (m .lent)) (λ u. absurd (true≢false (rw (t, u) at h))) (λ u. (t, u)))

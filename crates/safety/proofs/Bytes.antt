@@ -1,20 +1,18 @@
 -- On the lent bytes: from buffers that are a sound machine, each step on bytes is the step on the machine that they are.
 use mathlib.Core.Path.{_≡_, refl, sym, _∙_, ap}
-use mathlib.Core.Bool.{Bool, true, false, not, _&&_, and-eq-true-iff}
+use mathlib.Core.Bool.{true, _&&_, and-eq-true-iff}
 use mathlib.Core.List.{List, [], _∷_}
 use Prim.Native.Nat.{ℕ, _*_, _/_, _<_}
 use native.Mathlib.Omega.{arith}
 use native.Mathlib.Nat.{mul-suc}
 use lib.Dec.{eqb, lit<}
 use lib.ListN.{length, getD, length-append}
-use borrow.Author.Tests.{eqb-true, eq-eqb}
+use borrow.Author.Tests.{eqb-true, eq-eqb, le-leb}
 use Rattle.rules.specs.Words.{page-size, least-pages, most-pages, records, record-size, between, every}
-use Rattle.rules.specs.declared.Plan.{Plan}
 use Rattle.rules.specs.declared.Registers.{Registers}
-use Rattle.rules.specs.declared.Launched.the-variants.{Made, WrongSize}
-use Rattle.rules.specs.Answers.{Answered, refuse, launched-number}
-use Rattle.rules.specs.Machine.{Lent, Machine, with-lent, N, below, with-memory, write, table-byte, record-at, amend}
-use Rattle.rules.specs.Launch.{launch}
+use Rattle.rules.specs.declared.Launched.the-variants.{WrongSize}
+use Rattle.rules.specs.Answers.{refuse, launched-number}
+use Rattle.rules.specs.Machine.{Lent, with-lent, N, below, with-memory, write, table-byte, record-at, amend}
 use Rattle.rules.specs.Steps.{may-store, store, may-mark, mark}
 use Rattle.rules.specs.Sound.{table-sized, pages-sized, sound}
 use Rattle.rules.specs.Flat.{Buffers, parts, join, parted, joined, memory-fits, memory-sized, sheet-sized, well-sized, sound-bytes}
@@ -24,8 +22,10 @@ use Rattle.laws.proofs.Ranges.{by-test, every→, →every}
 use Rattle.laws.proofs.Chop.{chop-join}
 use Rattle.laws.proofs.Parts.{parts-chop, length-parts, length-row}
 use Rattle.laws.proofs.FlatSteps.{sizes, join-memory, join-sheet, length-pages, sized-sheet}
-use Rattle.safety.proofs.Sound.Facts.{open-sound}
 use Rattle.safety.specs.Statements.{step-bytes, run-bytes, Launched-sound, Stays-sound, Launched-on-bytes, Runs-on-bytes}
+use Rattle.safety.proofs.Checks.{not-made}
+use Rattle.safety.proofs.Sound.Facts.{Sound, open-sound}
+use Rattle.safety.proofs.Sound.Sizes.{table-sizes, sheet-length, memory-sizes}
 
 -- ---- parts of one size, joined
 
@@ -42,51 +42,33 @@ module _ (size : ℕ) (pos : 0 < size) where
       parts-chop (length rows) size (join rows) pos (length-join rows e)
       ∙ chop-join size rows (λ p h. eqb-true (length (getD rows p [])) size (every→ (λ r. eqb (length r) size) rows p [] e h))
 
--- what the sizes of a machine say
-record Sized (m : Lent) : Type 0 where
-  range : between least-pages most-pages (N m) ≡ true
-  rows : length (m .sheet) ≡ records
-  row : every (λ r. eqb (length r) record-size) (m .sheet) ≡ true
-  pages : length (m .memory) ≡ N m
-  page : every (λ r. eqb (length r) page-size) (m .memory) ≡ true
+-- ---- a sound machine and its bytes
 
-sized : (m : Lent) → table-sized m ≡ true → pages-sized m ≡ true → Sized m
-unfolding table-sized pages-sized
-sized m t p =
-    let r = between least-pages most-pages (N m) in
-    let outer = and-eq-true-iff (r && eqb (length (m .sheet)) records) (every (λ r. eqb (length r) record-size) (m .sheet)) .0 t in
-    let inner = and-eq-true-iff r (eqb (length (m .sheet)) records) .0 (outer .0) in
-    let memory = and-eq-true-iff (eqb (length (m .memory)) (N m)) (every (λ r. eqb (length r) page-size) (m .memory)) .0 p in
-    record { range = inner .0; rows = eqb-true _ _ (inner .1); row = outer .1; pages = eqb-true _ _ (memory .0); page = memory .1 }
-
-module _ (m : Lent) (s : Sized m) where
+module _ (m : Lent) (s : Sound m) where
   parted-joined : parted (joined m) ≡ m
   unfolding parted joined page-size record-size
   parted-joined =
       λ i. record {
-        memory = parts-join page-size (lit< tt) (m .memory) (s .page) i;
+        memory = parts-join page-size (lit< tt) (m .memory) (memory-sizes m (s .memories) .1) i;
         table = m .table;
-        sheet = parts-join record-size (lit< tt) (m .sheet) (s .row) i;
+        sheet = parts-join record-size (lit< tt) (m .sheet) (table-sizes m (s .tables) .2) i;
       }
 
   joined-sized : well-sized (joined m) ≡ true
   unfolding well-sized memory-sized memory-fits sheet-sized joined page-size record-size N
   joined-sized =
+      let rows = table-sizes m (s .tables) in
+      let pages = memory-sizes m (s .memories) in
       rw (
-        s .range,
-        eq-eqb _ _ (length-join page-size (lit< tt) (m .memory) (s .page) ∙ ap (λ n. page-size * n) (s .pages)),
-        eq-eqb _ _ (length-join record-size (lit< tt) (m .sheet) (s .row) ∙ ap (λ n. record-size * n) (s .rows)),
+        rows .0,
+        eq-eqb _ _ (length-join page-size (lit< tt) (m .memory) (pages .1) ∙ ap (λ n. page-size * n) (pages .0)),
+        eq-eqb _ _ (length-join record-size (lit< tt) (m .sheet) (rows .2) ∙ ap (λ n. record-size * n) (sheet-length m (s .tables))),
       )
-
--- ---- a sound machine and its bytes
-
-sizes-of : (m : Lent) → sound m ≡ true → Sized m
-sizes-of m e = let s = open-sound m e in sized m (s .tables) (s .memories)
 
 -- a sound machine, joined
 sound-joined : (m : Lent) → sound m ≡ true → sound-bytes (joined m) ≡ true
 unfolding sound-bytes
-sound-joined m e = rw (joined-sized m (sizes-of m e), parted-joined m (sizes-of m e), e)
+sound-joined m e = let s = open-sound m e in rw (joined-sized m s, parted-joined m s, e)
 
 -- a store leaves table and sheet, a mark memory and table
 store-leaves : (c p offset : ℕ) (bytes : List ℕ) (m : Lent)
@@ -146,8 +128,9 @@ module _ (kept : Stays-sound) where
       let after = step s (record { lent = parted b }) .lent in
       let fine : sound after ≡ true = kept (s ∷ []) (record { lent = parted b }) (both .1) in
       let same = bytes-step b (both .0) s in
-      (ap sound-bytes same ∙ sound-joined after fine, ap parted same ∙ parted-joined after (sizes-of after fine))
+      (ap sound-bytes same ∙ sound-joined after fine, ap parted same ∙ parted-joined after (open-sound after fine))
 
+  -- from bytes that are a sound machine, a run on bytes is the run of that machine
   pub runs-on-bytes-by : Runs-on-bytes
   unfolding Runs-on-bytes run-bytes run-steps
   runs-on-bytes-by [] b e = (e, refl)
@@ -166,31 +149,26 @@ rows-count : (n : ℕ) → n ≡ record-size * records → n / record-size ≡ r
 unfolding record-size records
 rows-count n e = omega arith
 
-in-range : (n bytes : ℕ) → memory-fits n bytes ≡ true → between least-pages most-pages n ≡ true
-unfolding memory-fits
-in-range n bytes e = and-eq-true-iff (between least-pages most-pages n) (eqb bytes (page-size * n)) .0 e .0
-
 parted-sized : (b : Buffers) → well-sized b ≡ true → (table-sized (parted b) ≡ true) × (pages-sized (parted b) ≡ true)
-unfolding table-sized pages-sized parted N record-size page-size memory-sized
+unfolding table-sized pages-sized parted N record-size page-size memory-sized between
 parted-sized b w =
     let both = both-sized b w in
     let fits = sizes (length (b .table)) (length (b .memory)) (both .0) in
-    let rows : length (parts record-size (b .sheet)) ≡ records = length-parts record-size (b .sheet) ∙ rows-count (length (b .sheet)) (sized-sheet (b .sheet) (both .1)) in (
-      rw (in-range (length (b .table)) (length (b .memory)) (both .0), eq-eqb _ _ rows, each-part record-size (lit< tt) (b .sheet)),
+    let range : between least-pages most-pages (length (b .table)) ≡ true = rw (le-leb _ _ (fits .least), le-leb _ _ (fits .most)) in
+    let whole = sized-sheet (b .sheet) (both .1) in
+    let rows : length (parts record-size (b .sheet)) ≡ records = length-parts record-size (b .sheet) ∙ rows-count (length (b .sheet)) whole in (
+      rw (range, eq-eqb _ _ rows, each-part record-size (lit< tt) (b .sheet)),
       rw (eq-eqb _ _ (length-pages (b .table) (b .memory) (both .0)), each-part page-size (lit< tt) (b .memory)),
     )
 
-one-is-not-zero : launched-number WrongSize ≡ launched-number Made → ⊥
-unfolding launched-number
-one-is-not-zero e = omega arith
-
 module _ (made : Launched-sound) where
+  -- a launch that is made on bytes gives a sound machine
   pub launched-on-bytes-by : Launched-on-bytes
-  unfolding Launched-on-bytes Launched-sound launch-bytes refuse
+  unfolding Launched-on-bytes Launched-sound launch-bytes refuse launched-number
   launched-on-bytes-by n plan b e =
       by-test (well-sized b && eqb n (length (b .table)))
       (λ t.
       let w = and-eq-true-iff (well-sized b) (eqb n (length (b .table))) .0 t .0 in
       let sizes = parted-sized b w in
       rw t (sound-joined _ (made plan (record { lent = parted b }) (sizes .0) (sizes .1) (rw t at e))))
-      (λ t. absurd (one-is-not-zero (ap launched-number (rw t at e))))
+      (λ t. not-made WrongSize (omega arith) (rw t at e))

@@ -1,5 +1,9 @@
--- Proofs of the statements in specs/, a folder for each subject. Theorems has them by their numbers.
+-- Proofs of the statements in specs/, a folder for each subject; before the folders what they share. Theorems has them by their numbers.
+pub mod Small
 pub mod Branches
+pub mod Effects
+pub mod Entries
+pub mod Checks
 pub mod Always
 pub mod Sound
 pub mod Kept

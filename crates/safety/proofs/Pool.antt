@@ -1,6 +1,5 @@
 -- The pool: statements 4, 5 and 6.
 pub mod Counts
-pub mod Named
 pub mod Pages
 pub mod Lists
 pub mod Bytes

@@ -1,7 +1,7 @@
 -- A sound machine, and that launch makes one and every step keeps it: statements 0 and 1.
 pub mod Facts
+pub mod Sizes
 pub mod Claims
-pub mod LiveRows
 pub mod Rows
 pub mod OnePage
 pub mod Changed

@@ -1,34 +1,33 @@
 -- Statement 7, gone: the caller deleted itself, and that left registers and pending byte as they were, and of memory all but the VMSA and the flag.
-use mathlib.Core.Path.{_≡_, refl, sym, _∙_}
+use mathlib.Core.Path.{_≡_, refl, sym, _∙_, ap}
 use mathlib.Core.Logic.{_⊎_, inl, inr}
-use mathlib.Core.Bool.{Bool, true, false, cond, not, _||_}
+use mathlib.Core.Bool.{true, false, cond}
 use mathlib.Core.List.{List, [], _∷_}
 use Prim.Native.Nat.{ℕ, _<_}
 use native.Mathlib.Omega.{arith}
-use lib.Dec.{eqb, ltb, leb}
+use lib.Dec.{eqb, ltb}
 use lib.ListN.{length, getD, set}
 use lib.Seq.{sets, getD-set-same, getD-set-other, set-out}
-use borrow.Author.Tests.{ltb-true, ltb-false, leb-false, eqb-true, eqb-false, not-false}
+use borrow.Author.Tests.{ltb-true, ltb-false, eqb-true, eqb-false, ne-eqb}
 use Rattle.rules.specs.declared.Registers.{Registers}
 use Rattle.rules.specs.declared.Code.{Code}
-use Rattle.rules.specs.declared.Outcome.the-variants.{Handled, NoCall, Gone, BadMachine}
+use Rattle.rules.specs.declared.Outcome.the-variants.{Handled, Gone}
 use Rattle.rules.specs.declared.ListCall.{ListCall}
 use Rattle.rules.specs.declared.ListCall.the-variants.{Pvalidate, Deposit}
-use Rattle.rules.specs.Answers.{Answered, refuse, outcome-number}
-use Rattle.rules.specs.Words.{page-size, records, record-size, little, exists, each, entries-a-call, multiple}
-use Rattle.rules.specs.Machine.{Lent, Machine, with-lent, N, page-of, page-at, with-memory, written, write, zeros, change, put, holds, is-live}
-use Rattle.rules.specs.Machine.{record-at, vcpu, startup, amend, needs-page}
-use Rattle.rules.specs.Sound.{bad-record}
+use Rattle.rules.specs.Answers.{Answered, outcome-number}
+use Rattle.rules.specs.Words.{record-size, entries-a-call}
+use Rattle.rules.specs.Machine.{Lent, Machine, with-lent, page-of, page-at, with-memory, written, write, zeros, is-live, record-at, vcpu, startup}
 use Rattle.rules.specs.Lists.{list-call}
-use Rattle.rules.specs.Calls.{remapped, remap, free-record, new-record, created, create, Asked, asked, unfit-pages, unfit-vcpu}
-use Rattle.rules.specs.Calls.{clear-svme, deleted, named-by, delete, give-back, withdrawn-pages, withdrawn, withdraw, any-free}
-use Rattle.rules.specs.Call.{Posed, bad-sheet, bad-machine, no-call, pending, on-lent, on-rcx, handle, set-flag, finish, call}
-use Rattle.rules.specs.Runs.{called}
-use Rattle.laws.proofs.Ranges.{by-test, each-same, or-false}
+use Rattle.rules.specs.Calls.{remap, free-record, new-record, create, Asked, asked, clear-svme, deleted, named-by, delete, withdraw, any-free}
+use Rattle.rules.specs.Call.{Posed, pending, on-lent, on-rcx, handle, set-flag, finish, call}
+use Rattle.laws.proofs.Ranges.{by-test}
 use Rattle.laws.proofs.Numbers.{getD-sets-elsewhere}
 use Rattle.laws.proofs.Records.{is-live-laid-out, is-live-remapped}
-use Rattle.safety.specs.Statements.{Left-by-gone, Gone-leaves}
-use Rattle.safety.proofs.Branches.{on-refuse, never, on-handle, run-within-sheet}
+use Rattle.safety.specs.Statements.{unreal, Left-by-gone, Gone-leaves}
+use Rattle.safety.proofs.Effects.{remapped-sheet, created-sheet, deleted-sheet, deleted-memory, withdrawn-sheet}
+use Rattle.safety.proofs.Entries.{run-within-sheet}
+use Rattle.safety.proofs.Branches.{never, on-handle, called-real, real-call}
+use Rattle.safety.proofs.Checks.{caller-of, past-remap, past-list, past-create, past-delete, past-withdraw}
 
 -- ---- which calls keep the caller's record live
 
@@ -40,7 +39,7 @@ amended-live f same rows i =
     (λ t. rw (getD-set-same rows i (f (getD rows i [])) [] (ltb-true i (length rows) t)) (same (getD rows i [])))
     (λ t. rw (set-out rows i (f (getD rows i [])) (ltb-false i (length rows) t)))
 
--- another record changed
+-- another element set
 other-row : (rows : List (List ℕ)) (i j : ℕ) (r : List ℕ) → eqb i j ≡ false → getD (set rows i r) j [] ≡ getD rows j []
 other-row rows i j r t = getD-set-other rows i j r [] (λ e. eqb-false i j t (sym e))
 
@@ -52,125 +51,76 @@ filled-live rows i j r h new old =
     (λ u. rw (← eqb-true i j u, getD-set-same rows i r [] h) new)
     (λ u. rw (other-row rows i j r u) old)
 
--- the sheet after each effect
-remapped-sheet : (caller old new : ℕ) (m : Lent)
-    → remapped caller old new m .sheet ≡ set (m .sheet) caller (sets (getD (m .sheet) caller []) 12 (little 4 new))
-unfolding remapped change put amend write with-memory record-at
-remapped-sheet caller old new m = by-test (eqb old new) (λ t. rw t) (λ t. rw t)
-
-created-sheet : (a : Asked) (i : ℕ) (m : Lent) → created a i m .sheet ≡ set (m .sheet) i (new-record a i m)
-unfolding created change put amend
-created-sheet a i m = by-test (needs-page i) (λ t. rw t) (λ t. rw t)
-
 new-live : (a : Asked) (i : ℕ) (m : Lent) → is-live (new-record a i m) ≡ true
 unfolding new-record
 new-live a i m = is-live-laid-out _
 
-deleted-sheet : (vmpl i : ℕ) (m : Lent) → deleted vmpl i m .sheet ≡ set (m .sheet) i (zeros record-size)
-unfolding deleted clear-svme change put amend write with-memory
-deleted-sheet vmpl i m = by-test (holds (record-at m i)) (λ t. rw t) (λ t. rw t)
-
-give-back-sheet : (vmpl : ℕ) (ps : List ℕ) (m : Lent) → each (give-back vmpl) ps m .sheet ≡ m .sheet
-unfolding give-back change put
-give-back-sheet vmpl ps m = each-same (λ m. m .sheet) (give-back vmpl) (λ p m. refl) ps m
-
-withdrawn-sheet : (vmpl rcx : ℕ) (m : Lent) → withdrawn vmpl rcx m .sheet ≡ m .sheet
-unfolding withdrawn write with-memory
-withdrawn-sheet vmpl rcx m = give-back-sheet vmpl (withdrawn-pages rcx m) m
-
 -- the caller deleted itself
 record Self-deleted (caller : ℕ) (m after : Lent) : Type 0 where
-  other : eqb caller 0 ≡ false
+  other : caller ≡ 0 → ⊥
   reached : after ≡ deleted (vcpu m caller .vmpl) caller m
 
 module _ (caller : ℕ) (m : Lent) (live : is-live (getD (m .sheet) caller []) ≡ true) where
   abbrev Stays : Lent → Type 0
   Stays after = is-live (getD (after .sheet) caller []) ≡ true
 
-  abbrev Ends : Answered Code Lent → Type 0
-  Ends a = Stays (a .after) ⊎ Self-deleted caller m (a .after)
+  -- it stays live, or the caller deleted itself
+  abbrev Ends : Lent → Type 0
+  Ends after = Stays after ⊎ Self-deleted caller m after
 
   same-sheet : (sheet : List (List ℕ)) → sheet ≡ m .sheet → is-live (getD sheet caller []) ≡ true
   same-sheet sheet e = rw e live
 
-  remap-ends : (rcx : ℕ) → Ends (remap caller rcx m)
-  unfolding remap
+  remap-ends : (rcx : ℕ) → Ends (remap caller rcx m .after)
+  unfolding record-at
   remap-ends rcx =
-      on-refuse Ends m _ _ _ (λ t. inl live) (λ t.
-      on-refuse Ends m _ _ _ (λ t. inl live) (λ t.
+      past-remap caller rcx m Ends (inl live) (λ fit.
       inl (rw (remapped-sheet caller (vcpu m caller .calling) (page-of rcx) m)
-      (amended-live _ (λ r. is-live-remapped r (page-of rcx)) (m .sheet) caller ∙ live))))
+      (amended-live _ (λ r. is-live-remapped r (page-of rcx)) (m .sheet) caller ∙ live)))
 
-  list-ends : (budget : ℕ) (call : ListCall) (rcx : ℕ) → Ends (list-call budget call caller rcx m)
-  unfolding list-call
-  list-ends budget call rcx =
-      on-refuse Ends m _ _ _ (λ t. inl live) (λ t.
-      on-refuse Ends m _ _ _ (λ t. inl live) (λ t.
-      on-refuse Ends m _ _ _ (λ t. inl live) (λ t.
-      on-refuse Ends m _ _ _ (λ t. inl live) (λ t.
-      inl (same-sheet _ (run-within-sheet budget call caller rcx m))))))
+  list-ends : (call : ListCall) (rcx : ℕ) → Ends (list-call entries-a-call call caller rcx m .after)
+  list-ends call rcx =
+      past-list entries-a-call call caller rcx m Ends (inl live) (λ page. inl (same-sheet _ (run-within-sheet entries-a-call call caller rcx m)))
 
-  create-ends : (rcx rdx r8 : ℕ) → Ends (create caller rcx rdx r8 m)
-  unfolding create
+  create-ends : (rcx rdx r8 : ℕ) → Ends (create caller rcx rdx r8 m .after)
   create-ends rcx rdx r8 =
+      past-create caller rcx rdx r8 m Ends (inl live) (λ fit.
       let a : Asked = asked caller rcx rdx r8 m in
       let i = free-record m in
-      let full = leb (length (m .sheet)) i in
-      on-refuse Ends m _ _ _ (λ t. inl live) (λ t.
-      on-refuse Ends m (unfit-pages a m) _ _ (λ t. inl live) (λ t.
-      on-refuse Ends m (unfit-vcpu a m) _ _ (λ t. inl live) (λ t.
-      on-refuse Ends m full _ _ (λ t. inl live) (λ room.
-      on-refuse Ends m _ _ _ (λ t. inl live) (λ t.
-      inl (rw (created-sheet a i m)
-      (filled-live (m .sheet) i caller (new-record a i m) (leb-false (length (m .sheet)) i room) (new-live a i m) live)))))))
+      inl (rw (created-sheet a i m) (filled-live (m .sheet) i caller (new-record a i m) (fit .row) (new-live a i m) live)))
 
-  delete-ends : (rcx : ℕ) → Ends (delete caller rcx m)
-  unfolding delete
+  delete-ends : (rcx : ℕ) → Ends (delete caller rcx m .after)
   delete-ends rcx =
+      past-delete caller rcx m Ends (inl live) (λ fit.
       let i = named-by (page-of rcx) m in
-      let vmpl : ℕ = vcpu m caller .vmpl in
-      let unmet : Bool = not (multiple page-size rcx) || leb (length (m .sheet)) i in
-      on-refuse Ends m _ _ _ (λ t. inl live) (λ t.
-      on-refuse Ends m _ _ _ (λ _. inl live) (λ _.
       by-test (eqb i caller)
-      (λ u. let other = or-false unmet (eqb i 0) (or-false (unmet || eqb i 0) (ltb (vcpu m i .vmpl) vmpl) t .0) .1 in
-      inr (rw (eqb-true i caller u) (record { other = rw (eqb-true i caller u) at other; reached = refl })))
-      (λ u. inl (rw (deleted-sheet vmpl i m, other-row (m .sheet) i caller (zeros record-size) u) live))))
+      (λ u. inr (rw (eqb-true i caller u) (record { other = λ e. fit .later (eqb-true i caller u ∙ e); reached = refl })))
+      (λ u. inl (rw (deleted-sheet (vcpu m caller .vmpl) i m, other-row (m .sheet) i caller (zeros record-size) u) live)))
 
-  withdraw-ends : (rcx : ℕ) → Ends (withdraw caller rcx m)
-  unfolding withdraw
+  withdraw-ends : (rcx : ℕ) → Ends (withdraw caller rcx m .after)
   withdraw-ends rcx =
-      on-refuse Ends m _ _ _ (λ t. inl live) (λ t.
-      on-refuse Ends m _ _ _ (λ t. inl live) (λ t.
-      inl (same-sheet _ (withdrawn-sheet (vcpu m caller .vmpl) rcx m))))
+      past-withdraw caller rcx m Ends (inl live) (λ page. inl (same-sheet _ (withdrawn-sheet (vcpu m caller .vmpl) rcx m)))
 
   -- all eight
-  abbrev Comes : Answered Code (Posed Registers Machine) → Type 0
-  Comes a = Stays (a .after .machine .lent) ⊎ Self-deleted caller m (a .after .machine .lent)
-
-  handle-comes : (g : Registers) → Comes (handle caller (record { registers = g; machine = record { lent = m } }))
+  handle-comes : (g : Registers) → Ends (handle caller (record { registers = g; machine = record { lent = m } }) .after .machine .lent)
   unfolding on-lent on-rcx with-lent
   handle-comes g =
-      on-handle caller (record { registers = g; machine = record { lent = m } }) Comes
+      on-handle caller (record { registers = g; machine = record { lent = m } }) (λ a. Ends (a .after .machine .lent))
       (record {
         bad-pending = inl live;
-        unknown-protocol = inl live;
-        remaps = remap-ends (g .rcx);
-        validates = λ e. list-ends entries-a-call Pvalidate (g .rcx);
-        creates = create-ends (g .rcx) (g .rdx) (g .r8);
+        unknown-protocol = λ e. inl live;
+        remaps = λ e. remap-ends (g .rcx);
+        validates = λ e. list-ends Pvalidate (g .rcx);
+        creates = λ e. create-ends (g .rcx) (g .rdx) (g .r8);
         deletes = λ e. delete-ends (g .rcx);
-        deposits = λ e. list-ends entries-a-call Deposit (g .rcx);
+        deposits = λ e. list-ends Deposit (g .rcx);
         withdraws = λ e. withdraw-ends (g .rcx);
-        queries = inl live;
-        configures = inl live;
-        unknown-call = inl live;
+        queries = λ e. inl live;
+        configures = λ e. inl live;
+        unknown-call = λ e. inl live;
       })
 
 -- ---- what is left
-
-deleted-memory : (vmpl i : ℕ) (m : Lent) → deleted vmpl i m .memory ≡ clear-svme (vcpu m i .vmsa) m .memory
-unfolding deleted change put amend
-deleted-memory vmpl i m = by-test (holds (record-at m i)) (λ t. rw t) (λ t. rw t)
 
 -- a write from `offset` on leaves the bytes before, of every page
 written-before : (p offset : ℕ) (bytes : List ℕ) (pages : List (List ℕ)) (q k : ℕ) → k < offset
@@ -185,13 +135,13 @@ written-before p offset bytes pages q k h =
     (λ u. rw (set-out pages p (sets (getD pages p []) offset bytes) (ltb-false p (length pages) u)))))
     (λ t. rw (other-row pages p q (sets (getD pages p []) offset bytes) t))
 
-module _ (caller : ℕ) (g : Registers) (m : Lent) (other : eqb caller 0 ≡ false) where
+module _ (caller : ℕ) (g : Registers) (m : Lent) (other : caller ≡ 0 → ⊥) where
   abbrev after : Lent
   after = deleted (vcpu m caller .vmpl) caller m
 
   startup-same : startup after .calling ≡ startup m .calling
   unfolding startup vcpu record-at
-  startup-same = rw (deleted-sheet _ caller m, other-row (m .sheet) caller 0 (zeros record-size) other)
+  startup-same = rw (deleted-sheet _ caller m, other-row (m .sheet) caller 0 (zeros record-size) (ne-eqb caller 0 other))
 
   left-memory : set-flag after .memory
       ≡ written (startup m .calling) 1 (cond (any-free (set-flag after)) 1 0 ∷ []) (clear-svme (vcpu m caller .vmsa) m .memory)
@@ -207,7 +157,7 @@ module _ (caller : ℕ) (g : Registers) (m : Lent) (other : eqb caller 0 ≡ fal
 
 -- a call that ends as gone
 ended : (caller : ℕ) (g : Registers) (m : Lent) (live : is-live (getD (m .sheet) caller []) ≡ true) (a : Answered Code (Posed Registers Machine))
-    → Comes caller m live a → finish caller g a .answer ≡ Gone → Left-by-gone caller g m (finish caller g a .after)
+    → Ends caller m live (a .after .machine .lent) → finish caller g a .answer ≡ Gone → Left-by-gone caller g m (finish caller g a .after)
 unfolding finish with-lent record-at outcome-number
 ended caller g m live a (inl stays) h = never Handled Gone refl (rw stays at h)
 ended caller g m live a (inr d) h =
@@ -215,21 +165,11 @@ ended caller g m live a (inr d) h =
     (λ t. never Handled Gone refl (rw t at h))
     (λ t. rw (t, d .reached) (left caller g m (d .other)))
 
-caller-live : (caller : ℕ) (m : Lent) → bad-machine caller m ≡ false → is-live (getD (m .sheet) caller []) ≡ true
-unfolding bad-machine bad-sheet
-caller-live caller m e =
-    let dead : ℕ → Bool = λ i. not (is-live (getD (m .sheet) i [])) in
-    let above : Bool = leb records caller in
-    let outer = or-false (above || dead caller || dead 0) (exists (bad-record (N m)) (m .sheet)) e in
-    not-false _ (or-false above (dead caller) (or-false (above || dead caller) (dead 0) (outer .0) .0) .1)
-
 -- what a caller that is gone leaves
 pub gone-leaves : Gone-leaves
-unfolding Gone-leaves called call refuse outcome-number
+unfolding Gone-leaves unreal record-at
 gone-leaves caller g m h =
-    by-test (bad-machine caller (m .lent))
-    (λ t. never BadMachine Gone refl (rw t at h))
-    (λ t. by-test (no-call caller g (m .lent))
-    (λ u. never NoCall Gone refl (rw (t, u) at h))
-    (λ u. let live = caller-live caller (m .lent) t in
-    rw (t, u) (ended caller g (m .lent) live _ (handle-comes caller (m .lent) live g) (rw (t, u) at h))))
+    let real = real-call caller g m (ap unreal h) in
+    let is = called-real caller g m (real .0) (real .1) in
+    let live = caller-of caller (m .lent) (real .0) .live in
+    rw is (ended caller g (m .lent) live _ (handle-comes caller (m .lent) live g) (rw is at h))

@@ -9,21 +9,21 @@ use lib.Dec.{eqb, ltb}
 use Rattle.rules.specs.declared.Registers.{Registers}
 use Rattle.rules.specs.declared.Code.{Code}
 use Rattle.rules.specs.declared.Code.the-variants.{Success}
-use Rattle.rules.specs.declared.Outcome.the-variants.{Handled, NoCall, Gone, BadMachine}
+use Rattle.rules.specs.declared.Outcome.the-variants.{Handled, Gone}
 use Rattle.rules.specs.declared.Entry.{Entry}
 use Rattle.rules.specs.declared.Entry.the-variants.{Reads, Unread}
 use Rattle.rules.specs.declared.ListCall.{ListCall}
 use Rattle.rules.specs.declared.ListCall.the-variants.{Pvalidate, Deposit}
-use Rattle.rules.specs.Answers.{Answered, refuse, code-number, outcome-number}
+use Rattle.rules.specs.Answers.{Answered, code-number, outcome-number}
 use Rattle.rules.specs.Words.{entries-a-call}
 use Rattle.rules.specs.Machine.{Lent, Machine, with-lent, with-memory, write, is-live, record-at, vcpu}
 use Rattle.rules.specs.Lists.{list-count, list-next, list-entry, read-entry, carry-out-all, after-entry, run, run-within, list-call}
 use Rattle.rules.specs.Calls.{remap, create, delete, withdraw, configure, vtom}
-use Rattle.rules.specs.Call.{Posed, with-rax, with-rcx, bad-machine, no-call, call-number, on-lent, on-rcx, handle, clear-pending, set-flag, finish, call}
-use Rattle.rules.specs.Runs.{called}
+use Rattle.rules.specs.Call.{Posed, with-rax, with-rcx, call-number, on-lent, on-rcx, handle, clear-pending, set-flag, finish, call}
 use Rattle.laws.proofs.Ranges.{by-test}
-use Rattle.safety.specs.Statements.{refused, last-writes, number-of-list-call, At-entry, Left-by-refusal, Refusal-leaves}
-use Rattle.safety.proofs.Branches.{on-test, on-refuse, never, on-handle, run-within-sheet}
+use Rattle.safety.specs.Statements.{unreal, refused, last-writes, number-of-list-call, At-entry, Left-by-refusal, Refusal-leaves}
+use Rattle.safety.proofs.Branches.{on-test, on-refuse, never, on-handle, called-real, real-call}
+use Rattle.safety.proofs.Entries.{run-within-sheet}
 
 -- a code that refuses
 unfoldable refuses : Code → Bool
@@ -171,16 +171,16 @@ module _ (caller : ℕ) (g : Registers) (m : Machine) where
       on-handle caller posed Leaves
       (record {
         bad-pending = λ h. same;
-        unknown-protocol = λ h. same;
-        remaps = on-lent-leaves _ (remap-unmoved (m .lent) caller (g .rcx));
+        unknown-protocol = λ e h. same;
+        remaps = λ e. on-lent-leaves _ (remap-unmoved (m .lent) caller (g .rcx));
         validates = λ e. on-list-leaves Pvalidate (e .number);
-        creates = on-lent-leaves _ (create-unmoved (m .lent) caller (g .rcx) (g .rdx) (g .r8));
+        creates = λ e. on-lent-leaves _ (create-unmoved (m .lent) caller (g .rcx) (g .rdx) (g .r8));
         deletes = λ e. on-lent-leaves _ (delete-unmoved (m .lent) caller (g .rcx));
         deposits = λ e. on-list-leaves Deposit (e .number);
         withdraws = λ e. on-lent-leaves _ (withdraw-unmoved (m .lent) caller (g .rcx));
-        queries = on-rcx-leaves _ succeeds;
-        configures = on-rcx-leaves _ (vtom-unmoved (g .rcx));
-        unknown-call = λ h. same;
+        queries = λ e. on-rcx-leaves _ succeeds;
+        configures = λ e. on-rcx-leaves _ (vtom-unmoved (g .rcx));
+        unknown-call = λ e h. same;
       })
 
 -- ---- the last writes
@@ -224,10 +224,8 @@ ended caller g m a leaves handled h =
 
 -- what a refused call leaves
 pub refusal-leaves : Refusal-leaves
-unfolding Refusal-leaves called call refuse outcome-number
+unfolding Refusal-leaves unreal
 refusal-leaves caller g m handled h =
-    by-test (bad-machine caller (m .lent))
-    (λ t. never BadMachine Handled refl (rw t at handled))
-    (λ t. by-test (no-call caller g (m .lent))
-    (λ u. never NoCall Handled refl (rw (t, u) at handled))
-    (λ u. rw (t, u) (ended caller g (m .lent) _ (handle-leaves caller g m) (rw (t, u) at handled) (rw (t, u) at h))))
+    let real = real-call caller g m (ap unreal handled) in
+    let is = called-real caller g m (real .0) (real .1) in
+    rw is (ended caller g (m .lent) _ (handle-leaves caller g m) (rw is at handled) (rw is at h))

@@ -1,58 +1,23 @@
 -- Statement 9, no second validation: an entry that validates covered no valid page; if it covers one it is refused; and what it validates is zero.
 use mathlib.Core.Path.{_≡_, refl, sym}
-use mathlib.Core.Bool.{Bool, true, cond, not, _&&_, true≢false}
+use mathlib.Core.Bool.{true, true≢false}
 use mathlib.Core.List.{List, [], _∷_}
 use Prim.Native.Nat.{ℕ}
-use native.Mathlib.Omega.{arith}
 use lib.Dec.{eqb, ltb}
 use lib.ListN.{length, getD, set, List·getD-eq-default}
 use lib.Seq.{getD-set-same, getD-set-other, set-out}
 use borrow.Author.Tests.{ltb-true, ltb-false, eqb-true, eqb-false}
-use Rattle.rules.specs.declared.Code.{Code}
-use Rattle.rules.specs.declared.Wish.{Wish}
 use Rattle.rules.specs.declared.Wish.the-variants.{Valid}
-use Rattle.rules.specs.declared.Entry.the-variants.{Reads, Unread}
 use Rattle.rules.specs.declared.ListCall.the-variants.{Pvalidate}
-use Rattle.rules.specs.Words.{page-size, bit, range, every, exists, each}
+use Rattle.rules.specs.Words.{page-size, range, every, exists, each}
 use Rattle.rules.specs.Machine.{Lent, page-at, with-memory, zeros, fill, put, table-byte, valid, vcpu}
 use Rattle.rules.specs.Lists.{entry-first, entry-pages, covered, malformed, coverable, read-covered, read-entry}
 use Rattle.rules.specs.Lists.{cleared, carry-out, carry-out-all, after-entry}
 use Rattle.laws.proofs.Ranges.{by-test}
 use Rattle.laws.proofs.Numbers.{zeros-at}
 use Rattle.safety.specs.Statements.{covers-valid, second-code, Validated-once, Second-validation-refused, Validated-pages-zero}
-
--- each fails where none passes
-every-not-exists : {A : Type 0} (test : A → Bool) (xs : List A) → every (λ x. not (test x)) xs ≡ not (exists test xs)
-unfolding every exists
-every-not-exists test [] = refl
-every-not-exists test (x ∷ xs) = by-test (test x) (λ t. rw t) (λ t. rw t (every-not-exists test xs))
-
-never : {A : Type 0} (code : Code) (first n : ℕ) (wish : Wish) → Unread code ≡ Reads first n wish → A
-never code first n wish e = let z : _≡_ {A = ℕ} 0 1 = cc in absurd (omega arith)
-
--- a Pvalidate entry that reads passed the tests of its form and of its pages
-covered-read : (caller rcx e first n : ℕ) (wish : Wish) (m : Lent) → read-entry Pvalidate caller rcx e m ≡ Reads first n wish
-    → read-covered Pvalidate caller e m ≡ Reads first n wish
-unfolding read-entry
-covered-read caller rcx e first n wish m h =
-    by-test (malformed Pvalidate e)
-    (λ t. never _ first n wish (rw t at h))
-    (λ t. by-test (every (coverable caller rcx m) (covered e))
-    (λ u. rw u at (rw t at h))
-    (λ u. never _ first n wish (rw u at (rw t at h))))
-
--- its pages are those that it covers
-range-read : (caller e first n : ℕ) (wish : Wish) (m : Lent) → read-covered Pvalidate caller e m ≡ Reads first n wish
-    → (entry-first e ≡ first) × (entry-pages e ≡ n)
-unfolding read-covered
-range-read caller e first n wish m h =
-    let all = every (λ p. valid (table-byte m p)) (covered e) in
-    let none = every (λ p. not (valid (table-byte m p))) (covered e) in
-    by-test (not all && not none)
-    (λ t. never _ first n wish (rw t at h))
-    (λ t. by-test (cond (bit 2 e) all none && not (bit 3 e))
-    (λ u. never _ first n wish (rw u at (rw t at h)))
-    (λ u. let g = rw u at (rw t at h) in (cc, cc)))
+use Rattle.safety.proofs.Small.{every-not-exists}
+use Rattle.safety.proofs.Entries.{unread, covered-read, entry-read}
 
 -- (a) an entry that validates covered no valid page
 pub validated-once : Validated-once
@@ -60,9 +25,9 @@ unfolding Validated-once covers-valid read-covered
 validated-once caller rcx e first n m two three h =
     let all = every (λ p. valid (table-byte m p)) (covered e) in
     let some = exists (λ p. valid (table-byte m p)) (covered e) in
-    let g = rw (two, three, every-not-exists (λ p. valid (table-byte m p)) (covered e)) at (covered-read caller rcx e first n Valid m h) in
+    let g = rw (two, three, every-not-exists (λ p. valid (table-byte m p)) (covered e)) at (covered-read Pvalidate caller rcx e first n Valid m h) in
     by-test some
-    (λ t. by-test all (λ u. never _ first n Valid (rw (t, u) at g)) (λ u. never _ first n Valid (rw (t, u) at g)))
+    (λ t. by-test all (λ u. unread _ first n Valid (rw (t, u) at g)) (λ u. unread _ first n Valid (rw (t, u) at g)))
     (λ t. t)
 
 -- (b) an entry that would validate a valid page is refused
@@ -118,5 +83,5 @@ all-filled vmpl p (q ∷ qs) m h =
 pub validated-pages-zero : Validated-pages-zero
 unfolding Validated-pages-zero page-at carry-out-all covered Zero
 validated-pages-zero caller rcx e first n m h p k x =
-    let both = range-read caller e first n Valid m (covered-read caller rcx e first n Valid m h) in
-    rw (← both .0, ← both .1) (all-filled (vcpu m caller .vmpl) p (range (entry-first e) (entry-pages e)) m x k)
+    let told = entry-read Pvalidate caller rcx e first n Valid m h in
+    rw (← told .starts, ← told .many) (all-filled (vcpu m caller .vmpl) p (range (entry-first e) (entry-pages e)) m x k)

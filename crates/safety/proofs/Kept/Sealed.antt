@@ -3,24 +3,18 @@ use mathlib.Core.Path.{_≡_, refl}
 use mathlib.Core.Bool.{true, false, and-eq-true-iff, and-false}
 use Prim.Native.Nat.{ℕ, _≤_}
 use native.Mathlib.Omega.{arith}
-use lib.Dec.{leb, ltb}
-use lib.ListN.{List·getD-eq-default}
-use borrow.Author.Tests.{ltb-true, ltb-false, leb-true, lt-leb, eqb-true}
+use lib.Dec.{leb}
+use borrow.Author.Tests.{leb-true, lt-leb, eqb-true}
 use Rattle.rules.specs.Words.{between, bits}
-use Rattle.rules.specs.Machine.{Lent, N, owner, valid, permitted, table-byte}
+use Rattle.rules.specs.Machine.{Lent, owner, valid, permitted, table-byte}
 use Rattle.rules.specs.Sound.{well-permitted}
-use Rattle.laws.proofs.Ranges.{by-test}
 use Rattle.laws.proofs.TableByte.{none→}
 use Rattle.safety.specs.Statements.{Sealed}
+use Rattle.safety.proofs.Effects.{owned-below}
 use Rattle.safety.proofs.Sound.Facts.{Sound, open-sound}
 
--- past the table's end no owner is 2 to 5
-pub beyond : (m : Lent) (p : ℕ) → N m ≤ p → table-byte m p ≡ 0
-unfolding N table-byte
-beyond m p h = List·getD-eq-default (m .table) 0 h
-
 -- a page that is well permitted, and of owner 2 to 5
-pub sealed-byte : (s c b : ℕ) → well-permitted s b ≡ true → 2 ≤ owner b → permitted c b ≡ false
+sealed-byte : (s c b : ℕ) → well-permitted s b ≡ true → 2 ≤ owner b → permitted c b ≡ false
 unfolding well-permitted
 sealed-byte s c b e h =
     none→ c b (eqb-true (bits 6 4 b) 0 (rw (lt-leb (owner b) 1 h, and-false (valid b)) at e))
@@ -29,15 +23,9 @@ least : (n : ℕ) → between 2 5 n ≡ true → 2 ≤ n
 unfolding between
 least n e = leb-true 2 n (and-eq-true-iff (leb 2 n) (leb n 5) .0 e .0)
 
-pub owner-zero : owner 0 ≡ 0
-unfolding owner bits
-owner-zero = refl
-
 -- no VMPL has any permission on a page of owner 2 or above
 pub sealed-page : (m : Lent) → Sound m → (p c : ℕ) → 2 ≤ owner (table-byte m p) → permitted c (table-byte m p) ≡ false
-sealed-page m s p c h =
-    by-test (ltb p (N m)) (λ t. sealed-byte _ c (table-byte m p) (s .pages p (ltb-true p (N m) t) .allowed) h)
-    (λ t. absurd (omega (arith, rw (beyond m p (ltb-false p (N m) t), owner-zero) at h)))
+sealed-page m s p c h = sealed-byte _ c (table-byte m p) (s .pages p (owned-below m p _ refl (omega arith)) .allowed) h
 
 -- statement 2
 pub sealed : Sealed

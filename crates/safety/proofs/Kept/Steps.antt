@@ -2,45 +2,49 @@
 -- free to in use and back.
 use mathlib.Core.Path.{_≡_, refl, sym, _∙_, ap}
 use mathlib.Core.Logic.{_⊎_, inl, inr}
-use mathlib.Core.Bool.{Bool, true, false, cond, not, _&&_, _||_, true≢false, and-eq-true-iff}
-use mathlib.Core.List.{List, []}
-use Prim.Native.Nat.{ℕ, _+_, _<_, _≤_}
+use mathlib.Core.Bool.{true, false, not, _&&_, _||_, true≢false, and-eq-true-iff}
+use Prim.Native.Nat.{ℕ, _+_, _<_}
 use native.Mathlib.Omega.{arith}
-use lib.Dec.{eqb, ltb, leb, lit<}
+use lib.Dec.{eqb, ltb, leb}
 use lib.ListN.{length}
-use borrow.Author.Tests.{eqb-true, eqb-false, eq-eqb, ne-eqb, ltb-true, lt-ltb, not-false}
+use borrow.Author.Tests.{eqb-true, eqb-false, eq-eqb, ltb-true, not-false}
 use Rattle.rules.specs.Words.{page-size, records, entries-a-call, multiple, exists}
 use Rattle.rules.specs.declared.Registers.{Registers}
 use Rattle.rules.specs.declared.Code.{Code}
 use Rattle.rules.specs.declared.Code.the-variants.{Success}
 use Rattle.rules.specs.declared.ListCall.the-variants.{Pvalidate, Deposit}
 use Rattle.rules.specs.Answers.{Answered, refuse, code-number}
-use Rattle.rules.specs.Machine.{Lent, Machine, with-lent, below, owner, valid, permitted, table-byte, page-at, page-of, offset-of, is-live, record-at, vcpu, startup, amend, with-memory, write}
+use Rattle.rules.specs.Machine.{Lent, Machine, with-lent, below, owner, valid, permitted, table-byte, page-of, offset-of}
+use Rattle.rules.specs.Machine.{is-live, record-at, vcpu, startup, with-memory, write}
 use Rattle.rules.specs.Steps.{may-store, store, mark}
-use Rattle.rules.specs.Sound.{sound}
 use Rattle.rules.specs.Lists.{bad-list-page}
 use Rattle.rules.specs.Calls.{withdrawn-pages, withdraw}
 use Rattle.rules.specs.Call.{Posed, protocol, call-number, bad-machine, no-call, on-lent, on-rcx, handle, with-rax, clear-pending, set-flag, finish, call}
 use Rattle.rules.specs.Runs.{Step, calls, stores, marks, called, step}
 use Rattle.laws.proofs.Ranges.{by-test}
 use Rattle.safety.specs.Statements.{done-well, asks-for, deletes, gives-back, Same-page, Kept-page, Monitor-kept, Vmsa-kept, Pool-kept, in-pool}
-use Rattle.safety.proofs.Branches.{Asks, past, on-test, on-refuse, on-handle}
+use Rattle.safety.proofs.Branches.{Asks, past, on-handle, called-real}
+use Rattle.safety.proofs.Checks.{Caller, caller-of, given-free}
 use Rattle.safety.proofs.Sound.Facts.{Sound, open-sound}
-use Rattle.safety.proofs.Sound.LiveRows.{sheet-length, startup-live}
+use Rattle.safety.proofs.Sound.Sizes.{sheet-length}
+use Rattle.safety.proofs.Sound.Rows.{startup-lives}
+use Rattle.safety.proofs.Sound.Runs.{Each-sound, handle-sound}
+use Rattle.safety.proofs.Pool.Counts.{pooled, in-pool-owner}
 use Rattle.safety.proofs.Kept.Sealed.{sealed-page}
-use Rattle.safety.proofs.Sound.Runs.{Caller, Each-sound, handle-sound, caller-of}
-use Rattle.safety.proofs.Kept.Untouched.{Untouched, untouched-here, untouched-twice, write-elsewhere, guarded, list-call-leaves, withdraw-leaves}
-use Rattle.safety.proofs.Kept.Fates.{Owned, Fate, same, turned, excused, untouched-then, then-untouched, remap-leaves, create-fate, delete-fate, apart, amend-leaves, given-free}
+use Rattle.safety.proofs.Kept.Untouched.{Untouched, untouched-here, untouched-twice, write-elsewhere, amend-leaves, guarded}
+use Rattle.safety.proofs.Kept.Untouched.{list-call-leaves, withdraw-leaves}
+use Rattle.safety.proofs.Kept.Fates.{Owned, Fate, same, turned, excused, calling-low, then-untouched, remap-leaves, create-fate, delete-fate}
 
 -- what excuses a change of page p by a step
-pub Excuse : ℕ → Step → Machine → Type 0
+Excuse : ℕ → Step → Machine → Type 0
 Excuse p s m =
     ((owner (table-byte (m .lent) p) ≡ 5) × (deletes p s m ≡ true)) ⊎ ((owner (table-byte (m .lent) p) ≡ 3) × (gives-back p s m ≡ true))
 
 -- a page of the pool is of owner 2 or above
-pool-guarded : (b : ℕ) → in-pool b ≡ true → ltb 1 (owner b) ≡ true
-unfolding in-pool
-pool-guarded b e =
+pool-guards : (m : Lent) (p : ℕ) → in-pool (table-byte m p) ≡ true → guarded m p ≡ true
+unfolding in-pool guarded
+pool-guards m p e =
+    let b = table-byte m p in
     by-test (eqb (owner b) 3) (λ t. rw (eqb-true (owner b) 3 t)) (λ t. rw (eqb-true (owner b) 4 (rw t at e)))
 
 module _ (each : Each-sound) (owned : (m : Lent) → Sound m → (i : ℕ) → i < records → is-live (record-at m i) ≡ true → Owned i m) where
@@ -71,16 +75,18 @@ module _ (each : Each-sound) (owned : (m : Lent) → Sound m → (i : ℕ) → i
         on-handle caller (record { registers = g; machine = m }) (λ a. Fate (Handled-excuse (a .answer)) p (m .lent) (a .after .machine .lent))
         (record {
           bad-pending = same untouched-here;
-          unknown-protocol = same untouched-here;
-          remaps = same (remap-leaves caller (g .rcx) p (m .lent) guard (owned (m .lent) s caller (c .below) (c .live)));
+          unknown-protocol = λ e. same untouched-here;
+          remaps = λ e. same (remap-leaves caller (g .rcx) p (m .lent) guard (owned (m .lent) s caller (c .below) (c .live)));
           validates = λ e. same (list-call-leaves caller (g .rcx) p (m .lent) guard entries-a-call Pvalidate);
-          creates = create-fate caller (g .rcx) p (m .lent) guard (g .rdx) (g .r8);
-          deletes = λ e. delete-fate caller (g .rcx) p (m .lent) guard (λ i h. owned (m .lent) s i (rw (← sheet-length (m .lent) s) h)) (λ done five here. (done, inl (five, e, here)));
+          creates = λ e. create-fate caller (g .rcx) p (m .lent) guard (g .rdx) (g .r8);
+          deletes = λ e.
+              delete-fate caller (g .rcx) p (m .lent) guard (λ i h. owned (m .lent) s i (rw (← sheet-length (m .lent) (s .tables)) h))
+              (λ done five here. (done, inl (five, e, here)));
           deposits = λ e. same (list-call-leaves caller (g .rcx) p (m .lent) guard entries-a-call Deposit);
           withdraws = withdraw-fate;
-          queries = same untouched-here;
-          configures = same untouched-here;
-          unknown-call = same untouched-here;
+          queries = λ e. same untouched-here;
+          configures = λ e. same untouched-here;
+          unknown-call = λ e. same untouched-here;
         })
 
   -- the last writes are in calling areas
@@ -91,10 +97,11 @@ module _ (each : Each-sound) (owned : (m : Lent) → Sound m → (i : ℕ) → i
   finish-leaves caller before a s c p guard =
       let m = a .after .machine .lent in
       let elsewhere : (i : ℕ) → i < records → is-live (record-at m i) ≡ true → eqb p (vcpu m i .calling) ≡ false
-      = λ i h live. apart m p (vcpu m i .calling) 1 guard (owned m s i h live .calling) (omega arith) in
-      let flag = elsewhere 0 (omega arith) (startup-live m s) in
+      = λ i h live. calling-low i m (owned m s i h live) p guard in
+      let flag = elsewhere 0 (omega arith) (startup-lives m s) in
       by-test (is-live (record-at m caller))
-      (λ t. rw t (untouched-twice (write-elsewhere p (vcpu m caller .calling) 0 _ m (elsewhere caller c t)) (write-elsewhere p (vcpu m 0 .calling) 1 _ _ flag)))
+      (λ t. rw t
+      (untouched-twice (write-elsewhere p (vcpu m caller .calling) 0 _ m (elsewhere caller c t)) (write-elsewhere p (vcpu m 0 .calling) 1 _ _ flag)))
       (λ t. rw t (write-elsewhere p (vcpu m 0 .calling) 1 _ m flag))
 
   -- a call that answered success is done well
@@ -106,20 +113,21 @@ module _ (each : Each-sound) (owned : (m : Lent) → Sound m → (i : ℕ) → i
 
   module _ (caller : ℕ) (g : Registers) (m : Machine) (s : Sound (m .lent)) (p : ℕ) (guard : guarded (m .lent) p ≡ true) where
     module _ (good : bad-machine caller (m .lent) ≡ false) (real : no-call caller g (m .lent) ≡ false) where
-      told : called caller g m ≡ finish caller g (handle caller (record { registers = g; machine = m }))
-      unfolding called call refuse
-      told = rw (good, real)
-
       excuse-told : Handled-excuse caller g m s p guard (handle caller (record { registers = g; machine = m }) .answer) → Excuse p (calls caller g) m
       unfolding Handled-excuse Excuse deletes gives-back asks-for
       excuse-told (done, inl (five, asks, here)) =
+          let told = called-real caller g m good real in
           inl (
             five,
             rw (eq-eqb (protocol g) 0 (asks .spoken), eq-eqb (call-number g) 3 (asks .number), eq-eqb (page-of (g .rcx)) p (sym here), told)
                 (finish-well caller g _ done),
           )
       excuse-told (done, inr (three, asks, given)) =
-          inr (three, rw (eq-eqb (protocol g) 0 (asks .spoken), eq-eqb (call-number g) 5 (asks .number), given, told) (finish-well caller g _ done))
+          let told = called-real caller g m good real in
+          inr (
+            three,
+            rw (eq-eqb (protocol g) 0 (asks .spoken), eq-eqb (call-number g) 5 (asks .number), given, told) (finish-well caller g _ done),
+          )
 
       finish-fate : Caller caller (m .lent)
           → Fate (Handled-excuse caller g m s p guard (handle caller (record { registers = g; machine = m }) .answer)) p (m .lent)
@@ -131,17 +139,18 @@ module _ (each : Each-sound) (owned : (m : Lent) → Sound m → (i : ℕ) → i
           (finish-leaves caller g _ (handle-sound each caller g m s c) (c .below) p (rw (h .byte) guard))
       finish-fate c (turned h before after) =
           then-untouched (turned h before after)
-          (finish-leaves caller g _ (handle-sound each caller g m s c) (c .below) p (pool-guarded _ after))
+          (finish-leaves caller g _ (handle-sound each caller g m s c) (c .below) p (pool-guards _ p after))
       finish-fate c (excused e) = excused (excuse-told e)
 
-    pub called-fate : Fate (Excuse p (calls caller g) m) p (m .lent) (called caller g m .after .machine .lent)
+    -- a call
+    called-fate : Fate (Excuse p (calls caller g) m) p (m .lent) (called caller g m .after .machine .lent)
     unfolding called call refuse
     called-fate =
         by-test (bad-machine caller (m .lent)) (λ t. rw t (same untouched-here))
         (λ good.
         by-test (no-call caller g (m .lent)) (λ t. rw (good, t) (same untouched-here))
         (λ real.
-        let c = caller-of each caller g m s good in
+        let c = caller-of caller (m .lent) good in
         rw (good, real) (finish-fate good real c (handle-fate caller g m s p guard c))))
 
   -- a store is to a page that is permitted
@@ -159,13 +168,10 @@ module _ (each : Each-sound) (owned : (m : Lent) → Sound m → (i : ℕ) → i
   step-fate (stores c q offset bytes) m s p guard =
       past (Fate (Excuse p (stores c q offset bytes) m) p (m .lent)) (m .lent) _ _ _ (same untouched-here)
       (λ t. same (write-elsewhere p q offset bytes (m .lent) (store-elsewhere c q offset (length bytes) (m .lent) s p guard (not-false _ t))))
-  step-fate (marks i value) m s p guard = past (Fate (Excuse p (marks i value) m) p (m .lent)) (m .lent) _ _ _ (same untouched-here) (λ t. same (amend-leaves _ i p (m .lent)))
+  step-fate (marks i value) m s p guard =
+      past (Fate (Excuse p (marks i value) m) p (m .lent)) (m .lent) _ _ _ (same untouched-here) (λ t. same (amend-leaves _ i p (m .lent)))
 
   -- ---- the statements
-
-  pool-guards : (m : Lent) (p : ℕ) → in-pool (table-byte m p) ≡ true → guarded m p ≡ true
-  unfolding guarded
-  pool-guards m p = pool-guarded (table-byte m p)
 
   owner-guards : (m : Lent) (p o : ℕ) → owner (table-byte m p) ≡ o → ltb 1 o ≡ true → guarded m p ≡ true
   unfolding guarded
@@ -175,9 +181,8 @@ module _ (each : Each-sound) (owned : (m : Lent) → Sound m → (i : ℕ) → i
   no-owner : {A : Type 0} (b o q : ℕ) → eqb o q ≡ false → owner b ≡ o → owner b ≡ q → A
   no-owner b o q n e f = absurd (eqb-false o q n (sym e ∙ f))
 
-  no-pool : {A : Type 0} (b o : ℕ) → (eqb o 3 || eqb o 4) ≡ false → owner b ≡ o → in-pool b ≡ true → A
-  unfolding in-pool
-  no-pool b o n e t = absurd (true≢false (sym (rw e at t) ∙ n))
+  no-pool : {A : Type 0} (b o : ℕ) → pooled o ≡ false → owner b ≡ o → in-pool b ≡ true → A
+  no-pool b o n e t = absurd (true≢false (sym t ∙ in-pool-owner b o e ∙ n))
 
   same-page : {p : ℕ} {m after : Lent} → Untouched p m after → Same-page p m after
   same-page h = record { bytes = h .page; validity = ap valid (h .byte); permissions = λ c. ap (permitted c) (h .byte) }
@@ -185,8 +190,9 @@ module _ (each : Each-sound) (owned : (m : Lent) → Sound m → (i : ℕ) → i
   kept-page : {p : ℕ} {m after : Lent} → Untouched p m after → Kept-page p m after
   kept-page h = record { same = same-page h; owned = ap owner (h .byte) }
 
+  -- a page of owner 2
   pub monitor-kept : Monitor-kept
-  unfolding Monitor-kept Excuse
+  unfolding Monitor-kept Excuse pooled
   monitor-kept st m e p two = go (step-fate st m (open-sound _ e) p (owner-guards (m .lent) p 2 two refl))
     where
       go : Fate (Excuse p st m) p (m .lent) (step st m .lent) → Kept-page p (m .lent) (step st m .lent)
@@ -195,8 +201,9 @@ module _ (each : Each-sound) (owned : (m : Lent) → Sound m → (i : ℕ) → i
       go (excused (inl (five, d))) = no-owner _ 2 5 refl two five
       go (excused (inr (three, d))) = no-owner _ 2 3 refl two three
 
+  -- of owner 5
   pub vmsa-kept : Vmsa-kept
-  unfolding Vmsa-kept Excuse
+  unfolding Vmsa-kept Excuse pooled
   vmsa-kept st m e p five not-deleted = go (step-fate st m (open-sound _ e) p (owner-guards (m .lent) p 5 five refl))
     where
       go : Fate (Excuse p st m) p (m .lent) (step st m .lent) → Kept-page p (m .lent) (step st m .lent)
@@ -205,8 +212,9 @@ module _ (each : Each-sound) (owned : (m : Lent) → Sound m → (i : ℕ) → i
       go (excused (inl (f, d))) = absurd (true≢false (sym d ∙ not-deleted))
       go (excused (inr (three, d))) = no-owner _ 5 3 refl five three
 
+  -- of owner 3 or 4
   pub pool-kept : Pool-kept
-  unfolding Pool-kept Excuse
+  unfolding Pool-kept Excuse pooled
   pool-kept st m e p in-it not-given = go (step-fate st m (open-sound _ e) p (pool-guards (m .lent) p in-it))
     where
       go : Fate (Excuse p st m) p (m .lent) (step st m .lent) → Same-page p (m .lent) (step st m .lent) × (in-pool (table-byte (step st m .lent) p) ≡ true)

@@ -22,10 +22,10 @@ use Rattle.rules.specs.Call.{set-flag, finish, call}
 use Rattle.rules.specs.Runs.{called}
 use Rattle.laws.proofs.Ranges.{→absent, each-same}
 use Rattle.safety.specs.Statements.{asking}
+use Rattle.safety.proofs.Effects.{withdrawn-sheet}
 use Rattle.safety.proofs.Sound.Facts.{Sound}
-use Rattle.safety.proofs.Sound.LiveRows.{live-right, not-bad, startup-live, sheet-length}
-use Rattle.safety.proofs.Sound.Withdraw.{give-back-sheet}
-use Rattle.safety.proofs.Sound.Lists.{same-live}
+use Rattle.safety.proofs.Sound.Sizes.{sheet-length}
+use Rattle.safety.proofs.Sound.Rows.{not-bad, startup-lives, row-right}
 
 -- ---- the address of the list
 
@@ -50,11 +50,6 @@ asks-withdraw m g = (refl, refl)
 
 -- ---- the machine after the call
 
--- Withdraw leaves the sheet as it was
-pub withdrawn-sheet : (vmpl rcx : ℕ) (m : Lent) → withdrawn vmpl rcx m .sheet ≡ m .sheet
-unfolding withdrawn write with-memory
-withdrawn-sheet vmpl rcx m = each-same (λ m. m .sheet) (give-back vmpl) (give-back-sheet vmpl) (withdrawn-pages rcx m) m
-
 -- Withdraw by the startup vCPU, and the last writes
 unfoldable pub ended : Lent → Lent
 ended m = set-flag (clear-pending 0 (withdrawn (startup m .vmpl) (page-size * startup m .calling + 8) m))
@@ -65,7 +60,7 @@ module _ (m : Lent) (s : Sound m) (mine : owner (table-byte m (startup m .callin
   -- it is a page of the machine
   pub calling-inside : startup m .calling < N m
   unfolding startup vcpu records
-  calling-inside = live-right m s 0 (omega arith) (startup-live m s) .named .calling
+  calling-inside = row-right m s 0 (omega arith) (startup-lives m s) .calling
 
   -- valid and permitted
   calling-valid : valid (table-byte m (startup m .calling)) ≡ true
@@ -94,10 +89,11 @@ module _ (m : Lent) (s : Sound m) (mine : owner (table-byte m (startup m .callin
   good-machine : bad-machine 0 m ≡ false
   unfolding bad-machine bad-sheet records record-at
   good-machine =
-      rw (startup-live m s, →absent (bad-record (N m)) (m .sheet) [] (λ i h. not-bad m s i (rw (← sheet-length m s) h)))
+      rw (startup-lives m s, →absent (bad-record (N m)) (m .sheet) [] (λ i h. not-bad m i (s .rows i (rw (← sheet-length m (s .tables)) h))))
 
   still-live : is-live (record-at (withdrawn (startup m .vmpl) (page-size * startup m .calling + 8) m) 0) ≡ true
-  still-live = same-live m _ 0 (withdrawn-sheet (startup m .vmpl) (page-size * startup m .calling + 8) m) (startup-live m s)
+  unfolding record-at
+  still-live = rw (withdrawn-sheet (startup m .vmpl) (page-size * startup m .calling + 8) m) (startup-lives m s)
 
   module _ (g : Registers) (waits : pending 0 m ≡ 1) where
     real-call : no-call 0 (asking m g) m ≡ false

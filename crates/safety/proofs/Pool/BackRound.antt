@@ -21,15 +21,15 @@ use Rattle.laws.proofs.Counts.{table-byte-each, table-byte-each-other, count-ea
 use Rattle.laws.proofs.Numbers.{number-written, number-elsewhere}
 use Rattle.laws.proofs.TableByte.{byte·simp}
 use Rattle.safety.specs.Statements.{free}
+use Rattle.safety.proofs.Effects.{same-startup, withdrawn-sheet, page-written, owned-below}
+use Rattle.safety.proofs.Checks.{withdrawn-rising, withdrawn-free, given-free}
 use Rattle.safety.proofs.Sound.Facts.{Sound}
-use Rattle.safety.proofs.Sound.OnePage.{write-sound, page-sized}
-use Rattle.safety.proofs.Sound.LiveRows.{startup-live, startup-vmpl}
-use Rattle.safety.proofs.Sound.Lists.{granted, same-startup}
-use Rattle.safety.proofs.Sound.Withdraw.{free-valid, withdrawn-rising, withdrawn-free, withdraw-sound}
-use Rattle.safety.proofs.Kept.Sealed.{beyond, owner-zero}
+use Rattle.safety.proofs.Sound.Sizes.{page-whole}
+use Rattle.safety.proofs.Sound.Rows.{startup-lives, startup-range}
+use Rattle.safety.proofs.Sound.OnePage.{write-sound, granted, owned-valid}
+use Rattle.safety.proofs.Sound.Withdraw.{withdraw-sound}
 use Rattle.safety.proofs.Kept.Untouched.{Untouched, untouched-here, untouched-twice, write-elsewhere}
-use Rattle.safety.proofs.Kept.Fates.{given-free}
-use Rattle.safety.proofs.Pool.BackCall.{list-page, list-offset, withdrawn-sheet, ended, calling-inside, withdraw-done}
+use Rattle.safety.proofs.Pool.BackCall.{list-page, list-offset, ended, calling-inside, withdraw-done}
 
 -- a page that the startup's VMPL may use as its own: plain, valid and permitted
 pub record Open (c b : ℕ) : Type 0 where
@@ -81,11 +81,6 @@ pub write-byte : (p o : ℕ) (bytes : List ℕ) (m : Lent) (q : ℕ) → table-b
 unfolding write with-memory table-byte
 write-byte p o bytes m q = refl
 
--- a write in a page of the machine
-pub page-written : (p o : ℕ) (bytes : List ℕ) (m : Lent) → p < length (m .memory) → page-at (write p o bytes m) p ≡ sets (page-at m p) o bytes
-unfolding page-at write with-memory written
-page-written p o bytes m h = getD-set-same (m .memory) p (sets (getD (m .memory) p []) o bytes) [] h
-
 -- as many pages as before
 memory-written : (p o : ℕ) (bytes : List ℕ) (m : Lent) → length (write p o bytes m .memory) ≡ length (m .memory)
 unfolding write with-memory written
@@ -104,8 +99,7 @@ count-read page gs n x y h b =
 
 -- a page of the pool is one of the table's
 pub pool-inside : (m : Lent) (p : ℕ) → owner (table-byte m p) ≡ 3 → p < N m
-pool-inside m p e =
-    by-test (ltb p (N m)) (ltb-true p (N m)) (λ t. absurd (omega (arith, rw (beyond m p (ltb-false p (N m) t), owner-zero) at e)))
+pool-inside m p e = owned-below m p 3 e (omega arith)
 
 -- a page given back
 given-open : (c b : ℕ) → between 1 3 c ≡ true → valid b ≡ true → Open c (grant c (own 0 b))
@@ -256,7 +250,7 @@ module _ (m : Lent) where
     ended-sound : Sound (ended m)
     unfolding ended set-flag clear-pending records
     ended-sound =
-        let done = rw (withdraw-done m s mine) at (withdraw-sound 0 rcx (omega arith) m s (startup-live m s)) in
+        let done = rw (withdraw-done m s mine) at (withdraw-sound 0 rcx (omega arith) m s (startup-lives m s)) in
         write-sound _ 1 _ _ (write-sound _ 0 _ _ done)
 
     ended-turns : (p : ℕ) → Turning (startup m .vmpl) (table-byte m p) → Turning (startup m .vmpl) (table-byte (ended m) p)
@@ -266,7 +260,7 @@ module _ (m : Lent) where
         by-test (exists (eqb p) ps)
         (λ t.
         let inside = pool-inside m p e in
-        inr (rw (ended-given p t inside) (given-open (startup m .vmpl) (table-byte m p) (startup-vmpl m s) (free-valid m p s inside e))))
+        inr (rw (ended-given p t inside) (given-open (startup m .vmpl) (table-byte m p) (startup-range m s) (owned-valid _ _ _ (s .pages p inside) (λ z. omega arith)))))
         (λ t. inl (rw (ended-other p t) e))
 
     -- the call, as a part of a round
@@ -296,7 +290,7 @@ module _ (m : Lent) where
 
     calling-long : k < length (m .memory) → length (page-at m k) ≡ page-size
     unfolding page-at
-    calling-long = page-sized m k (s .memories)
+    calling-long = page-whole m (s .memories) k
 
     -- the count that Withdraw wrote
     pub count-told : in-list 2 0 rcx (ended m) ≡ length ps

@@ -1,41 +1,27 @@
 -- A list's numbers in memory: which writes leave them, the last writes of a call among those.
 use mathlib.Core.Path.{_≡_, refl, _∙_, ap}
-use mathlib.Core.Bool.{true, false, cond, not, _&&_, _||_}
+use mathlib.Core.Bool.{true, cond}
 use mathlib.Core.Logic.{_⊎_, inr}
 use mathlib.Core.List.{List, [], _∷_}
 use Prim.Native.Nat.{ℕ, _+_, _%_, _^_, _<_, _≤_}
 use native.Mathlib.Omega.{arith}
 use lib.Dec.{ltb, eqb}
-use lib.ListN.{length, getD}
-use lib.Seq.{sets, set-out, getD-set-same, getD-set-other}
+use lib.ListN.{length}
 use borrow.Author.Tests.{ltb-true, ltb-false, eqb-true, eqb-false}
 use Rattle.rules.specs.Words.{page-size, records, multiple, little, number}
-use Rattle.rules.specs.Machine.{Lent, page-of, offset-of, page-at, write, written, with-memory, owner, plain, calling-area, table-byte, owned-by}
-use Rattle.rules.specs.Machine.{usable, is-live, record-at, vcpu, startup}
-use Rattle.rules.specs.Sound.{sound}
-use Rattle.rules.specs.Lists.{bad-list-page, in-list}
+use Rattle.rules.specs.Machine.{Lent, page-of, offset-of, page-at, write, with-memory, is-live, record-at, vcpu, startup}
+use Rattle.rules.specs.Lists.{in-list}
 use Rattle.rules.specs.Calls.{any-free}
 use Rattle.rules.specs.Call.{clear-pending, set-flag}
-use Rattle.laws.proofs.Ranges.{by-test, or-false}
+use Rattle.laws.proofs.Ranges.{by-test}
 use Rattle.laws.proofs.Numbers.{number-elsewhere, number-written}
 use Rattle.safety.specs.Statements.{last-writes}
-use Rattle.safety.proofs.Pool.Named.{calling-owner}
+use Rattle.safety.proofs.Effects.{page-written, page-not-written, page-out}
+use Rattle.safety.proofs.Checks.{List-page}
+use Rattle.safety.proofs.Sound.Facts.{Sound}
+use Rattle.safety.proofs.Sound.Rows.{calling-owned}
 
 module _ (p o : ℕ) (bytes : List ℕ) (m : Lent) where
-  -- the page that is written
-  pub page-written : p < length (m .memory) → page-at (write p o bytes m) p ≡ sets (page-at m p) o bytes
-  unfolding page-at write with-memory written
-  page-written h = getD-set-same (m .memory) p (sets (getD (m .memory) p []) o bytes) [] h
-
-  -- each other page
-  pub page-not-written : (q : ℕ) → (q ≡ p → ⊥) → page-at (write p o bytes m) q ≡ page-at m q
-  unfolding page-at write with-memory written
-  page-not-written q h = getD-set-other (m .memory) p q (sets (getD (m .memory) p []) o bytes) [] h
-
-  page-out : (q : ℕ) → length (m .memory) ≤ p → page-at (write p o bytes m) q ≡ page-at m q
-  unfolding page-at write with-memory written
-  page-out q h = ap (λ pages. getD pages q []) (set-out (m .memory) p (sets (getD (m .memory) p []) o bytes) h)
-
   -- a number of the list, where the bytes are not written over
   pub in-list-write : (w at rcx : ℕ) → (page-of rcx ≡ p → (offset-of rcx + at + w ≤ o) ⊎ (o + length bytes ≤ offset-of rcx + at))
       → in-list w at rcx (write p o bytes m) ≡ in-list w at rcx m
@@ -44,9 +30,10 @@ module _ (p o : ℕ) (bytes : List ℕ) (m : Lent) where
       by-test (eqb (page-of rcx) p)
       (λ t. let same : page-of rcx ≡ p = eqb-true (page-of rcx) p t in
       by-test (ltb p (length (m .memory)))
-      (λ u. rw (same, page-written (ltb-true p (length (m .memory)) u)) (number-elsewhere w (page-at m p) o bytes (offset-of rcx + at) (apart same)))
-      (λ u. ap (λ page. number w page (offset-of rcx + at)) (page-out (page-of rcx) (ltb-false p (length (m .memory)) u))))
-      (λ t. ap (λ page. number w page (offset-of rcx + at)) (page-not-written (page-of rcx) (eqb-false (page-of rcx) p t)))
+      (λ u. rw (same, page-written p o bytes m (ltb-true p (length (m .memory)) u))
+      (number-elsewhere w (page-at m p) o bytes (offset-of rcx + at) (apart same)))
+      (λ u. ap (λ page. number w page (offset-of rcx + at)) (page-out p o bytes m (page-of rcx) (ltb-false p (length (m .memory)) u))))
+      (λ t. ap (λ page. number w page (offset-of rcx + at)) (page-not-written p o bytes m (page-of rcx) (eqb-false (page-of rcx) p t)))
 
 -- a number that is written into the list is read
 pub in-list-written : (w at o n rcx : ℕ) (m : Lent) → offset-of rcx + at ≡ o → page-of rcx < length (m .memory)
@@ -66,17 +53,9 @@ unfolding offset-of page-size
 offset-below rcx = omega arith
 
 -- a list that is accepted, if it is in a live record's calling page, is behind the page's first eight bytes
-module _ (m : Lent) (s : sound m ≡ true) (vmpl rcx : ℕ) (mult : multiple 8 rcx ≡ true) (fine : bad-list-page vmpl rcx m ≡ false) where
-  -- for each live record
-  pub list-behind : (i : ℕ) → i < records → is-live (record-at m i) ≡ true → page-of rcx ≡ vcpu m i .calling → 8 ≤ offset-of rcx
-  unfolding bad-list-page owned-by
-  list-behind i h live e =
-      let p = page-of rcx in
-      let is : owner (table-byte m p) ≡ 1 = rw e (calling-owner m s i h live) in
-      let strange = not (owned-by plain m p) && not (owned-by calling-area m p) in
-      let last = or-false (not (usable vmpl m p) || strange) (owned-by calling-area m p && eqb (offset-of rcx) 0) fine .1 in
-      let not-first = eqb-false (offset-of rcx) 0 (rw is at last) in
-      omega (arith, offset-eight rcx mult)
+pub list-behind : (m : Lent) → Sound m → (rcx : ℕ) → multiple 8 rcx ≡ true → List-page rcx m
+    → (i : ℕ) → i < records → is-live (record-at m i) ≡ true → page-of rcx ≡ vcpu m i .calling → 8 ≤ offset-of rcx
+list-behind m s rcx mult page i h live e = omega (arith, page .behind (rw e (calling-owned m s i h live)), offset-eight rcx mult)
 
 -- the last writes leave a list that lies behind the first bytes of the calling pages
 module _ (caller rcx w at : ℕ) (m : Lent) (mine : page-of rcx ≡ vcpu m caller .calling → 2 ≤ offset-of rcx + at)

@@ -19,9 +19,9 @@ use Rattle.rules.specs.Runs.{Step, calls, stores, called, step, run-steps, hand
 use Rattle.laws.proofs.Ranges.{→exists}
 use Rattle.laws.proofs.Counts.{exists-count}
 use Rattle.safety.specs.Statements.{Kept-page, free, rounds, asking, withdrawals, succeeds, all-succeed, All-come-back}
+use Rattle.safety.proofs.Effects.{same-startup}
 use Rattle.safety.proofs.Sound.Facts.{Sound, open-sound}
-use Rattle.safety.proofs.Sound.LiveRows.{startup-live}
-use Rattle.safety.proofs.Sound.Lists.{same-startup}
+use Rattle.safety.proofs.Sound.Rows.{startup-lives}
 use Rattle.safety.proofs.Kept.Untouched.{Untouched}
 use Rattle.safety.proofs.Kept.Fates.{Owned}
 use Rattle.safety.proofs.Pool.BackCall.{asks-withdraw, ended, stored, called-done}
@@ -80,7 +80,7 @@ pub record Rounds (n : ℕ) (ss : List Step) (m : Lent) : Type 0 where
 module _ (owned : (m : Lent) → Sound m → (i : ℕ) → i < records → is-live (record-at m i) ≡ true → Owned i m) where
   mine : (m : Lent) → Sound m → owner (table-byte m (startup m .calling)) ≡ 1
   unfolding startup records
-  mine m s = owned m s 0 (omega arith) (startup-live m s) .calling
+  mine m s = owned m s 0 (omega arith) (startup-lives m s) .calling
 
   -- ---- one round
 

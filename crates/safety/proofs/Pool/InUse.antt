@@ -1,27 +1,30 @@
 -- Statement 5: the pages in use of the pool are no more than the records that need one. A page in use is claimed by a record that is live and holds it, a
 -- record holds one page, and records 0 to 3 hold none.
 use mathlib.Core.Path.{_≡_, refl, sym, _∙_, ap}
-use mathlib.Core.Bool.{Bool, true, false, cond, not, _&&_, _||_, true≢false, and-eq-true-iff}
+use mathlib.Core.Bool.{Bool, true, false, cond, _&&_, _||_, true≢false}
 use mathlib.Core.List.{List, [], _∷_}
 use Prim.Native.Nat.{ℕ, zero, suc, _+_, _-_, _<_, _≤_}
 use native.Mathlib.Omega.{arith}
 use native.Mathlib.Nat.{add-zero, zero-add}
-use lib.Dec.{leb, eqb}
+use lib.Dec.{eqb}
 use lib.ListN.{length, getD}
-use borrow.Author.Tests.{eqb-true, lt-leb, not-false}
-use Rattle.rules.specs.Words.{records, records-without-pool, record-size, least-pages, most-pages, between, range, every, exists, count}
-use Rattle.rules.specs.Machine.{Lent, N, owner, pool-in-use, table-byte, fields, is-live, holds, needs-page, record-at, vcpu}
-use Rattle.rules.specs.Sound.{claim, claims, agrees, bad-record, live-fault, record-fault, table-sized, sound}
-use Rattle.laws.proofs.Ranges.{by-test, exists-append, rising-range, rising→outside, or-false}
+use borrow.Author.Tests.{eqb-true, lt-leb}
+use Rattle.rules.specs.Words.{records, records-without-pool, range, exists, count}
+use Rattle.rules.specs.Machine.{Lent, N, owner, pool-in-use, table-byte, fields, is-live, holds, needs-page, record-at}
+use Rattle.rules.specs.Sound.{claim, claims, agrees, sound}
+use Rattle.laws.proofs.Ranges.{by-test, exists-append, rising-range, rising→outside}
 use Rattle.laws.proofs.Counts.{one, one-le, count-cons, count-none}
 use Rattle.safety.specs.Statements.{in-use}
+use Rattle.safety.proofs.Small.{implied}
 use Rattle.safety.proofs.Sound.Facts.{open-sound}
+use Rattle.safety.proofs.Sound.Sizes.{sheet-length}
+use Rattle.safety.proofs.Sound.Rows.{holds-needed}
 
 -- ---- counts
 
 module _ {A : Type 0} (test : A → Bool) (d : A) where
   -- what passes in a list passes again in a range as long
-  pub count-onto : (over : ℕ → Bool) (first : ℕ) (xs : List A) → ((i : ℕ) → i < length xs → test (getD xs i d) ≡ true → over (first + i) ≡ true)
+  count-onto : (over : ℕ → Bool) (first : ℕ) (xs : List A) → ((i : ℕ) → i < length xs → test (getD xs i d) ≡ true → over (first + i) ≡ true)
       → count test xs ≤ count over (range first (length xs))
   unfolding count range
   count-onto over first [] h = omega arith
@@ -32,7 +35,7 @@ module _ {A : Type 0} (test : A → Bool) (d : A) where
       (λ t. rw t (omega (arith, count-cons over first (range (suc first) (length xs)))))
 
   -- if none of the first k pass, no more pass than there are behind them
-  pub count-late : (k : ℕ) (xs : List A) → ((i : ℕ) → i < k → i < length xs → test (getD xs i d) ≡ false) → count test xs ≤ length xs - k
+  count-late : (k : ℕ) (xs : List A) → ((i : ℕ) → i < k → i < length xs → test (getD xs i d) ≡ false) → count test xs ≤ length xs - k
   unfolding count
   count-late k [] h = omega arith
   count-late zero (x ∷ xs) h =
@@ -41,7 +44,7 @@ module _ {A : Type 0} (test : A → Bool) (d : A) where
       rw (h 0 (omega arith) (omega arith)) (omega (arith, count-late k xs (λ i b c. h (suc i) (omega arith) (omega arith))))
 
 -- a range holds a number at most once
-pub count-range-one : (q first n : ℕ) → count (eqb q) (range first n) ≤ 1
+count-range-one : (q first n : ℕ) → count (eqb q) (range first n) ≤ 1
 unfolding count range
 count-range-one q first zero = omega arith
 count-range-one q first (suc n) =
@@ -55,7 +58,7 @@ either true b = omega arith
 either false b = omega arith
 
 -- what passes one test or the other
-pub count-either : {A : Type 0} (f g : A → Bool) (xs : List A) → count (λ x. f x || g x) xs ≤ count f xs + count g xs
+count-either : {A : Type 0} (f g : A → Bool) (xs : List A) → count (λ x. f x || g x) xs ≤ count f xs + count g xs
 unfolding count
 count-either f g [] = omega arith
 count-either f g (x ∷ xs) =
@@ -67,7 +70,7 @@ count-false [] = refl
 count-false (x ∷ xs) = count-false xs
 
 -- if each row names at most one of the ps, and none unless it holds, no more of them are named than rows hold
-pub count-named : {A : Type 0} (names : A → ℕ → Bool) (holding : A → Bool) (ps : List ℕ) → ((a : A) → count (names a) ps ≤ one (holding a))
+count-named : {A : Type 0} (names : A → ℕ → Bool) (holding : A → Bool) (ps : List ℕ) → ((a : A) → count (names a) ps ≤ one (holding a))
     → (rows : List A) → count (λ p. exists (λ a. names a p) rows) ps ≤ count holding rows
 unfolding exists
 count-named names holding ps h [] = omega (arith, count-false ps)
@@ -83,11 +86,11 @@ count-named names holding ps h (a ∷ rows) =
 -- ---- the pages that a sheet's records hold
 
 -- the record is live and holds a pool page
-unfoldable pub keeps : List ℕ → Bool
+unfoldable keeps : List ℕ → Bool
 keeps r = is-live r && holds r
 
 -- and that page is p
-unfoldable pub keeps-page : List ℕ → ℕ → Bool
+unfoldable keeps-page : List ℕ → ℕ → Bool
 keeps-page r p = keeps r && eqb (fields r .pool) p
 
 one-page : (b : Bool) (q first n : ℕ) → count (λ p. b && eqb q p) (range first n) ≤ one b
@@ -125,39 +128,20 @@ agreed-four (c ∷ d ∷ ds) e = absurd (true≢false (sym e))
 
 -- ---- a sound machine
 
-first-false : (a b c d e f : Bool) → (a || b || c || d || e || f) ≡ false → a ≡ false
-first-false true b c d e f h = absurd (true≢false h)
-first-false false b c d e f h = refl
-
-live-holds : (m : Lent) (i : ℕ) → live-fault m i ≡ false → i < records-without-pool → holds (record-at m i) ≡ false
-unfolding live-fault holds vcpu needs-page
-live-holds m i e h =
-    let wrong : not (eqb (fields (record-at m i) .holding) (cond (leb records-without-pool i) 1 0)) ≡ false = first-false _ _ _ _ _ _ e in
-    let right : fields (record-at m i) .holding ≡ 0 = eqb-true _ _ (not-false _ (rw (lt-leb records-without-pool i h) at wrong)) in
-    rw right
-
 module _ (m : Lent) (s : sound m ≡ true) where
   -- a page in use is kept by a record
-  pub in-use-kept-by : (p : ℕ) → p < N m → eqb (owner (table-byte m p)) pool-in-use ≡ true → exists (λ r. keeps-page r p) (m .sheet) ≡ true
+  in-use-kept-by : (p : ℕ) → p < N m → eqb (owner (table-byte m p)) pool-in-use ≡ true → exists (λ r. keeps-page r p) (m .sheet) ≡ true
   in-use-kept-by p h e =
       let o : owner (table-byte m p) ≡ pool-in-use = eqb-true _ _ e in
       rw (← claims-four (m .sheet) p) (agreed-four (claims (m .sheet) p) (rw o at (open-sound m s .pages p h .agreed)))
 
-  -- the sheet has its records
-  pub sheet-length : length (m .sheet) ≡ records
-  unfolding table-sized
-  sheet-length =
-      let sized = and-eq-true-iff (between least-pages most-pages (N m) && eqb (length (m .sheet)) records)
-      (every (λ r. eqb (length r) record-size) (m .sheet)) .0 (open-sound m s .tables) .0 in
-      eqb-true _ _ (and-eq-true-iff (between least-pages most-pages (N m)) (eqb (length (m .sheet)) records) .0 sized .1)
-
   -- the first records keep none
   first-keep-none : (i : ℕ) → i < records-without-pool → i < length (m .sheet) → keeps (getD (m .sheet) i []) ≡ false
-  unfolding keeps record-fault record-at
+  unfolding keeps record-at needs-page
   first-keep-none i h b =
-      by-test (is-live (getD (m .sheet) i []))
-      (λ t. rw t (live-holds m i (rw t at (or-false (bad-record (N m) (record-at m i)) _ (open-sound m s .rows i (rw sheet-length at b)) .1)) h))
-      (λ t. rw t)
+      let fine = open-sound m s in
+      implied (is-live (getD (m .sheet) i [])) (holds (getD (m .sheet) i []))
+      (λ t. holds-needed m fine i (rw (sheet-length m (fine .tables)) at b) t ∙ lt-leb records-without-pool i h)
 
   -- statement 5
   pub at-most : in-use m ≤ records - records-without-pool
@@ -166,7 +150,7 @@ module _ (m : Lent) (s : sound m ≡ true) where
       let test : ℕ → Bool = λ b. eqb (owner b) pool-in-use in
       let onto = count-onto test 0 (λ p. exists (λ r. keeps-page r p) (m .sheet)) 0 (m .table) (λ i h t. rw zero-add (in-use-kept-by i h t)) in
       let named = count-named keeps-page keeps (range 0 (N m)) (λ r. one-page (keeps r) (fields r .pool) 0 (N m)) (m .sheet) in
-      omega (arith, onto, named, count-late keeps [] records-without-pool (m .sheet) first-keep-none, sheet-length)
+      omega (arith, onto, named, count-late keeps [] records-without-pool (m .sheet) first-keep-none, sheet-length m (open-sound m s .tables))
 
   -- and its number
   pub at-most-twelve : in-use m ≤ 12

@@ -1,204 +1,96 @@
--- Remap, Create, Delete and Pvalidate leave the number of the pool's pages as it was.
+-- Remap, Create and Delete leave the number of the pool's pages as it was: no page that they change enters the pool or leaves it.
 use mathlib.Core.Path.{_≡_, refl, sym, _∙_}
-use mathlib.Core.Bool.{Bool, true, false, cond, not, _&&_, _||_, true≢false, and-eq-true-iff}
-use mathlib.Core.List.{[]}
+use mathlib.Core.Bool.{Bool, true}
 use Prim.Native.Nat.{ℕ, _<_}
-use native.Mathlib.Omega.{arith}
-use lib.Dec.{leb, ltb, eqb}
-use lib.ListN.{length, getD}
-use borrow.Author.Tests.{ltb-true, leb-false, eqb-true, eqb-false, not-false, ne-eqb}
-use Rattle.rules.specs.Words.{page-size, records, multiple, lowest}
-use Rattle.rules.specs.Answers.{refuse}
-use Rattle.rules.specs.Machine.{Lent, N, below, page-of, owner, plain, calling-area, pool-free, pool-in-use, vmsa-area, table-byte, change, own}
-use Rattle.rules.specs.Machine.{grant, revoke, owned-by, usable, vcpu, is-live, holds, fields, needs-page, record-at}
-use Rattle.rules.specs.Sound.{sound}
-use Rattle.rules.specs.Calls.{remapped, remap, Asked, asked, unfit-pages, unfit-vcpu, free-record, free-page, any-free, is-free, created, create}
-use Rattle.rules.specs.Calls.{clear-svme, deleted, named-by, delete}
+use lib.Dec.{eqb}
+use borrow.Author.Tests.{eqb-true, eqb-false}
+use Rattle.rules.specs.Words.{records}
+use Rattle.rules.specs.Machine.{Lent, page-of, owner, table-byte, change, own, grant, revoke, vcpu, is-live, holds, needs-page, record-at}
+use Rattle.rules.specs.Calls.{remapped, remap, Asked, free-page, created, create, deleted, delete}
 use Rattle.rules.specs.Runs.{pool}
-use Rattle.laws.proofs.Ranges.{by-test, lowest-passes, exists-lowest, or-false}
+use Rattle.laws.proofs.Ranges.{by-test}
 use Rattle.laws.proofs.TableByte.{owner-own, owner-grant}
-use Rattle.safety.proofs.Pool.InUse.{sheet-length}
-use Rattle.safety.proofs.Pool.Counts.{pooled, pool-write, pool-amend, pool-change, byte-change-other, N-change, byte-write, N-write}
-use Rattle.safety.proofs.Pool.Named.{live-names, vmsa-owner, calling-owner, pool-owner}
-
--- a page that passes both tests
-pub usable-below : (c : ℕ) (m : Lent) (p : ℕ) → not (usable c m p) ≡ false → p < N m
-unfolding usable below
-usable-below c m p e = ltb-true p (N m) (and-eq-true-iff (ltb p (N m)) _ .0 (not-false _ e) .0)
-
-must : (a b : Bool) → (not a && not b) ≡ false → b ≡ false → a ≡ true
-must true b e h = refl
-must false b e h = absurd (true≢false (sym (rw h) ∙ e))
+use Rattle.safety.proofs.Effects.{change-other, three-changed, created-table, deleted-table}
+use Rattle.safety.proofs.Branches.{on-test}
+use Rattle.safety.proofs.Checks.{Remap-fit, past-remap, Create-fit, pool-apart, past-create, past-delete}
+use Rattle.safety.proofs.Sound.Facts.{Sound}
+use Rattle.safety.proofs.Sound.Sizes.{sheet-length}
+use Rattle.safety.proofs.Sound.Rows.{vmsa-owned, calling-owned, pool-owned, vmsa-not-calling, vmsa-not-pool, calling-not-pool}
+use Rattle.safety.proofs.Pool.Counts.{pooled, pool-table, pool-write, pool-amend, pool-change}
 
 -- ---- Remap
 
-module _ (caller : ℕ) (m : Lent) (s : sound m ≡ true) (h : caller < records) (live : is-live (record-at m caller) ≡ true) where
-  remapped-pool : (new : ℕ) → new < N m → (not (owned-by plain m new) && not (eqb new (vcpu m caller .calling))) ≡ false
-      → pool (remapped caller (vcpu m caller .calling) new m) ≡ pool m
-  unfolding remapped pooled owned-by vcpu
-  remapped-pool new b e =
+module _ (caller : ℕ) (m : Lent) (s : Sound m) (h : caller < records) (live : is-live (record-at m caller) ≡ true) where
+  remapped-pool : (rcx : ℕ) → Remap-fit caller rcx m → pool (remapped caller (vcpu m caller .calling) (page-of rcx) m) ≡ pool m
+  unfolding remapped pooled
+  remapped-pool rcx fit =
       let old = vcpu m caller .calling in
-      let was : owner (table-byte m old) ≡ 1 = calling-owner m s caller h live in
-      let inside : old < N m = live-names m s caller h live .calling in
+      let new = page-of rcx in
+      let was = calling-owned m s caller h live in
       rw (pool-write, pool-write, pool-amend)
       (by-test (eqb old new)
-      (λ t. rw t (let again = pool-change (own 1) new 1 1 m b (rw (← eqb-true old new t) was) (owner-own 1 _ refl) in omega arith))
+      (λ t. rw t (pool-change (own 1) new 1 1 m (rw (← eqb-true old new t) was) (owner-own 1 _ refl) refl))
       (λ t. rw t
       (let apart : new ≡ old → ⊥ = λ q. eqb-false old new t (sym q) in
-      let left = pool-change (own 0) old 1 0 m inside was (owner-own 0 _ refl) in
-      let then = change (own 0) old m in
-      let free : owner (table-byte m new) ≡ 0 = eqb-true _ 0 (must _ _ e (ne-eqb new old apart)) in
-      let taken = pool-change (own 1) new 0 1 then (rw (N-change (own 0) old m) b) (rw (byte-change-other (own 0) old new m apart) free) (owner-own 1 _ refl) in
-      omega arith)))
+      pool-change (own 1) new 0 1 (change (own 0) old m) (rw (change-other (own 0) old m new apart) (fit .owned apart)) (owner-own 1 _ refl) refl
+      ∙ pool-change (own 0) old 1 0 m was (owner-own 0 _ refl) refl)))
 
   -- Remap
   pub remap-pool : (rcx : ℕ) → pool (remap caller rcx m .after) ≡ pool m
-  unfolding remap refuse
-  remap-pool rcx =
-      let new = page-of rcx in
-      let strange = not (owned-by plain m new) && not (eqb new (vcpu m caller .calling)) in
-      by-test (not (multiple page-size rcx)) (λ t. rw t)
-      (λ t. rw t
-      (by-test (not (usable (vcpu m caller .vmpl) m new) || strange) (λ u. rw u)
-      (λ u. rw u
-      (let both = or-false (not (usable (vcpu m caller .vmpl) m new)) strange u in
-      remapped-pool new (usable-below (vcpu m caller .vmpl) m new (both .0)) (both .1)))))
+  remap-pool rcx = past-remap caller rcx m (λ now. pool now ≡ pool m) refl (remapped-pool rcx)
+
+-- ---- three pages of different owners, of which the third alone is of the pool, before and after
+
+-- a page's owner before and after a change
+record Moves (f : ℕ → ℕ) (p o o′ : ℕ) (m : Lent) : Type 0 where
+  before : owner (table-byte m p) ≡ o
+  after : (b : ℕ) → owner (f b) ≡ o′
+  alike : pooled o′ ≡ pooled o
+
+moved : (f : ℕ → ℕ) (p o o′ : ℕ) (m now : Lent) → Moves f p o o′ m → table-byte now p ≡ table-byte m p → pool (change f p now) ≡ pool now
+moved f p o o′ m now v same = pool-change f p o o′ now (rw same (v .before)) (v .after (table-byte now p)) (v .alike)
+
+three-pool : (f g k : ℕ → ℕ) (a b c : ℕ) (t : Bool) (m : Lent) (o o′ q q′ r r′ : ℕ) → Moves f a o o′ m → Moves g b q q′ m
+    → (t ≡ true → Moves k c r r′ m) → (a ≡ b → ⊥) → (t ≡ true → (a ≡ c → ⊥) × (b ≡ c → ⊥)) → pool (three-changed f g k a b c t m) ≡ pool m
+three-pool f g k a b c t m o o′ q q′ r r′ v w x a-b ab-c =
+    let first = change f a m in
+    let two : pool (change g b first) ≡ pool m = moved g b q q′ m first w (change-other f a m b (λ e. a-b (sym e))) ∙ moved f a o o′ m m v refl in
+    on-test (λ now. pool now ≡ pool m) t _ _
+    (λ e. moved k c r r′ m (change g b first) (x e) (change-other g b first c (λ q. ab-c e .1 (sym q)) ∙ change-other f a m c (λ q. ab-c e .0 (sym q))) ∙ two)
+    (λ e. two)
 
 -- ---- Create
 
--- a page that Create takes
-record Fit (m : Lent) (p : ℕ) : Type 0 where
-  inside : p < N m
-  free : owner (table-byte m p) ≡ plain
-
-fit : (c : ℕ) (m : Lent) (p : ℕ) → (not (usable c m p) || not (owned-by plain m p)) ≡ false → Fit m p
-unfolding owned-by
-fit c m p e =
-    let both = or-false (not (usable c m p)) (not (owned-by plain m p)) e in
-    record { inside = usable-below c m p (both .0); free = eqb-true (owner (table-byte m p)) 0 (not-false _ (both .1)) }
-
-created-pool : (a : Asked) (i : ℕ) (m : Lent) → Fit m (a .vmsa) → Fit m (a .calling) → (a .calling ≡ a .vmsa → ⊥)
-    → (needs-page i ≡ true → (free-page m < N m) × (owner (table-byte m (free-page m)) ≡ pool-free))
-    → pool (created a i m) ≡ pool m
-unfolding created pooled
-created-pool a i m v c apart page =
-    let f : ℕ → ℕ = λ b. own vmsa-area (revoke b) in
-    let first = change f (a .vmsa) m in
-    let then = change (own calling-area) (a .calling) first in
-    let one-less = pool-change f (a .vmsa) 0 5 m (v .inside) (v .free) (owner-own 5 _ refl) in
-    let there : a .calling < N first = rw (N-change f (a .vmsa) m) (c .inside) in
-    let plain-still : owner (table-byte first (a .calling)) ≡ 0 = rw (byte-change-other f (a .vmsa) (a .calling) m apart) (c .free) in
-    let two-less = pool-change (own calling-area) (a .calling) 0 1 first there plain-still (owner-own 1 _ refl) in
-    rw pool-amend
-    (by-test (needs-page i)
-    (λ t. rw t
-    (let q = free-page m in
-    let h = page t in
-    let not-vmsa : q ≡ a .vmsa → ⊥ = λ e. omega (arith, v .free, rw e at (h .1)) in
-    let not-calling : q ≡ a .calling → ⊥ = λ e. omega (arith, c .free, rw e at (h .1)) in
-    let below : q < N then = rw (N-change (own calling-area) (a .calling) first, N-change f (a .vmsa) m) (h .0) in
-    let still : owner (table-byte then q) ≡ 3
-    = rw (byte-change-other (own calling-area) (a .calling) q first not-calling, byte-change-other f (a .vmsa) q m not-vmsa) (h .1) in
-    let taken = pool-change (own pool-in-use) q 3 4 then below still (owner-own 4 _ refl) in
-    omega arith))
-    (λ t. rw t (omega arith)))
-
-free-owner : (b : ℕ) → is-free b ≡ true → owner b ≡ pool-free
-unfolding is-free
-free-owner b e = eqb-true (owner b) pool-free e
-
--- the lowest free page is one, if any is
-pub free-page-free : (m : Lent) → any-free m ≡ true → (free-page m < N m) × (owner (table-byte m (free-page m)) ≡ pool-free)
-unfolding any-free free-page N table-byte
-free-page-free m e =
-    let h = ltb-true (lowest is-free (m .table)) (length (m .table)) (sym (exists-lowest is-free (m .table)) ∙ e) in
-    (h, free-owner _ (lowest-passes is-free (m .table) 0 h))
-
-not-and : (a b : Bool) → (a && not b) ≡ false → a ≡ true → b ≡ true
-not-and a true e h = refl
-not-and a false e h = absurd (true≢false (sym (rw h) ∙ e))
+created-pool : (a : Asked) (i : ℕ) (m : Lent) → Create-fit a i m → pool (created a i m) ≡ pool m
+unfolding pooled
+created-pool a i m fit =
+    let v = fit .vmsa .owned in
+    let c = fit .calling .owned in
+    pool-table _ (created a i m) (created-table a i m)
+    ∙ three-pool (λ b. own 5 (revoke b)) (own 1) (own 4) (a .vmsa) (a .calling) (free-page m) (needs-page i) m 0 5 0 1 3 4
+    (record { before = v; after = λ b. owner-own 5 _ refl; alike = refl }) (record { before = c; after = λ b. owner-own 1 _ refl; alike = refl })
+    (λ t. record { before = fit .pool-free t; after = λ b. owner-own 4 _ refl; alike = refl }) (fit .differ) (pool-apart a i m fit)
 
 -- Create
 pub create-pool : (caller rcx rdx r8 : ℕ) (m : Lent) → pool (create caller rcx rdx r8 m .after) ≡ pool m
-unfolding create refuse unfit-pages
-create-pool caller rcx rdx r8 m =
-    let a = asked caller rcx rdx r8 m in
-    let i = free-record m in
-    let unfit : ℕ → Bool = λ p. not (usable (a .caller-vmpl) m p) || not (owned-by plain m p) in
-    by-test (not (multiple page-size rcx) || not (multiple page-size rdx)) (λ t. rw t)
-    (λ t. rw t
-    (by-test (unfit (a .vmsa) || unfit (a .calling) || eqb (a .vmsa) (a .calling)) (λ u. rw u)
-    (λ u. rw u
-    (by-test (unfit-vcpu a m) (λ v. rw v)
-    (λ v. rw v
-    (by-test (leb (length (m .sheet)) i) (λ w. rw w)
-    (λ w. rw w
-    (by-test (needs-page i && not (any-free m)) (λ x. rw x)
-    (λ x. rw x
-    (let outer = or-false (unfit (a .vmsa) || unfit (a .calling)) (eqb (a .vmsa) (a .calling)) u in
-    let inner = or-false (unfit (a .vmsa)) (unfit (a .calling)) (outer .0) in
-    created-pool a i m (fit (a .caller-vmpl) m (a .vmsa) (inner .0)) (fit (a .caller-vmpl) m (a .calling) (inner .1))
-    (λ q. eqb-false (a .vmsa) (a .calling) (outer .1) (sym q)) (λ n. free-page-free m (not-and _ _ x n))))))))))))
+create-pool caller rcx rdx r8 m = past-create caller rcx rdx r8 m (λ now. pool now ≡ pool m) refl (λ fit. created-pool _ _ m fit)
 
 -- ---- Delete
 
--- the pages of a record set free: VMSA v, calling page c and, if it holds one, pool page p
-released-pool : (f : ℕ → ℕ) (v c p : ℕ) (holding : Bool) (m : Lent) → ((b : ℕ) → owner (f b) ≡ plain)
-    → (v < N m) × (owner (table-byte m v) ≡ vmsa-area) → (c < N m) × (owner (table-byte m c) ≡ calling-area)
-    → (holding ≡ true → (p < N m) × (owner (table-byte m p) ≡ pool-in-use))
-    → pool (cond holding (change (own pool-free) p (change (own plain) c (change f v m))) (change (own plain) c (change f v m))) ≡ pool m
-unfolding pooled
-released-pool f v c p holding m plains hv hc hp =
-    let first = change f v m in
-    let then = change (own plain) c first in
-    let c-v : c ≡ v → ⊥ = λ e. omega (arith, hv .1, rw e at (hc .1)) in
-    let one-less = pool-change f v 5 0 m (hv .0) (hv .1) (plains _) in
-    let two-less = pool-change (own plain) c 1 0 first (rw (N-change f v m) (hc .0)) (rw (byte-change-other f v c m c-v) (hc .1)) (owner-own 0 _ refl) in
-    by-test holding
-    (λ t. rw t
-    (let p-v : p ≡ v → ⊥ = λ e. omega (arith, hv .1, rw e at (hp t .1)) in
-    let p-c : p ≡ c → ⊥ = λ e. omega (arith, hc .1, rw e at (hp t .1)) in
-    let last = pool-change (own pool-free) p 4 3 then (rw (N-change (own plain) c first, N-change f v m) (hp t .0))
-    (rw (byte-change-other (own plain) c p first p-c, byte-change-other f v p m p-v) (hp t .1)) (owner-own 3 _ refl) in
-    omega arith))
-    (λ t. rw t (omega arith))
-
-module _ (m : Lent) (s : sound m ≡ true) (i : ℕ) (h : i < records) (live : is-live (record-at m i) ≡ true) where
+module _ (m : Lent) (s : Sound m) (i : ℕ) (h : i < records) (live : is-live (record-at m i) ≡ true) where
   deleted-pool : (vmpl : ℕ) → pool (deleted vmpl i m) ≡ pool m
-  unfolding deleted vcpu clear-svme
+  unfolding pooled
   deleted-pool vmpl =
       let v = vcpu m i in
-      let names = live-names m s i h live in
-      let cleared = clear-svme (v .vmsa) m in
-      let there : (p o : ℕ) → p < N m → owner (table-byte m p) ≡ o → (p < N cleared) × (owner (table-byte cleared p) ≡ o)
-      = λ p o a b. rw (N-write (v .vmsa) _ _ m, byte-write (v .vmsa) _ _ m p) (a, b) in
-      rw pool-amend
-      (released-pool (λ b. grant vmpl (own plain b)) (v .vmsa) (v .calling) (v .pool) (holds (record-at m i)) cleared
-      (λ b. owner-grant vmpl (own plain b) ∙ owner-own 0 b refl)
-      (there (v .vmsa) 5 (names .vmsa) (vmsa-owner m s i h live)) (there (v .calling) 1 (names .calling) (calling-owner m s i h live))
-      (λ t. there (v .pool) 4 (names .pool t) (pool-owner m s i h live t))
-      ∙ pool-write (v .vmsa) _ _ m)
-
--- the record that is named is live
-named-live : (p : ℕ) (m : Lent) → named-by p m < length (m .sheet) → is-live (record-at m (named-by p m)) ≡ true
-unfolding named-by record-at
-named-live p m h =
-    let r = getD (m .sheet) (named-by p m) [] in
-    and-eq-true-iff (is-live r) (eqb (fields r .vmsa) p) .0 (lowest-passes (λ r. is-live r && eqb (fields r .vmsa) p) (m .sheet) [] h) .0
+      pool-table _ (deleted vmpl i m) (deleted-table vmpl i m)
+      ∙ three-pool (λ b. grant vmpl (own 0 b)) (own 0) (own 3) (v .vmsa) (v .calling) (v .pool) (holds (record-at m i)) m 5 0 1 0 4 3
+      (record { before = vmsa-owned m s i h live; after = λ b. owner-grant vmpl (own 0 b) ∙ owner-own 0 b refl; alike = refl })
+      (record { before = calling-owned m s i h live; after = λ b. owner-own 0 b refl; alike = refl })
+      (λ t. record { before = pool-owned m s i h live t; after = λ b. owner-own 3 b refl; alike = refl })
+      (vmsa-not-calling m s i h live) (λ t. (vmsa-not-pool m s i h live t, calling-not-pool m s i h live t))
 
 -- Delete
-pub delete-pool : (caller rcx : ℕ) (m : Lent) → sound m ≡ true → pool (delete caller rcx m .after) ≡ pool m
-unfolding delete refuse
+pub delete-pool : (caller rcx : ℕ) (m : Lent) → Sound m → pool (delete caller rcx m .after) ≡ pool m
 delete-pool caller rcx m s =
-    let i = named-by (page-of rcx) m in
-    let vmpl = vcpu m caller .vmpl in
-    let odd = not (multiple page-size rcx) in
-    let none = leb (length (m .sheet)) i in
-    by-test (odd || none || eqb i 0 || ltb (vcpu m i .vmpl) vmpl) (λ t. rw t)
-    (λ t. rw t
-    (by-test (not (eqb i caller) && eqb (vcpu m i .running) 1) (λ u. rw u)
-    (λ u. rw u
-    (let first = or-false (odd || none || eqb i 0) (ltb (vcpu m i .vmpl) vmpl) t .0 in
-    let second = or-false odd none (or-false (odd || none) (eqb i 0) first .0) .1 in
-    let h : i < length (m .sheet) = leb-false (length (m .sheet)) i second in
-    deleted-pool m s i (rw (sheet-length m s) at h) (named-live (page-of rcx) m h) vmpl))))
+    past-delete caller rcx m (λ now. pool now ≡ pool m) refl (λ fit.
+    deleted-pool m s _ (rw (sheet-length m (s .tables)) at (fit .row)) (fit .live) (vcpu m caller .vmpl))

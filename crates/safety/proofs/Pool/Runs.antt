@@ -2,20 +2,19 @@
 use mathlib.Core.Path.{_≡_, refl, _∙_}
 use mathlib.Core.Bool.{true, false}
 use mathlib.Core.List.{List, [], _∷_, map}
-use Prim.Native.Nat.{ℕ, _+_, _<_}
+use Prim.Native.Nat.{ℕ, _+_}
 use native.Mathlib.Omega.{arith}
 use lib.Dec.{ltb, eqb}
 use Rattle.rules.specs.Words.{range, count, bits}
-use Rattle.rules.specs.Answers.{refuse, launched-number}
 use Rattle.rules.specs.declared.Plan.{Plan}
-use Rattle.rules.specs.declared.Launched.{Launched}
-use Rattle.rules.specs.declared.Launched.the-variants.{Made, OutOfRange, AreasMeet, UnfitVmsa}
-use Rattle.rules.specs.Machine.{Lent, Machine, N, page-at, owner}
+use Rattle.rules.specs.declared.Launched.the-variants.{Made}
+use Rattle.rules.specs.Machine.{Lent, Machine, N, owner}
 use Rattle.rules.specs.Sound.{table-sized, pages-sized, sound}
-use Rattle.rules.specs.Launch.{in-monitor, out-of-range, areas-meet, unfit-vmsa, launch-byte, launch-table, made, launch}
+use Rattle.rules.specs.Launch.{in-monitor, launch-byte, launch-table, made, launch}
 use Rattle.rules.specs.Runs.{Step, step, run-steps, pool, taken-in, given-back, over-run}
 use Rattle.laws.proofs.Ranges.{by-test}
 use Rattle.safety.specs.Statements.{in-pool}
+use Rattle.safety.proofs.Checks.{launch-made}
 use Rattle.safety.proofs.Pool.Counts.{pool-counts, pool-write}
 use Rattle.safety.proofs.Pool.Steps.{step-counted}
 
@@ -51,20 +50,9 @@ made-empty : (plan : Plan) (m : Lent) → pool (made plan m .lent) ≡ 0
 unfolding made launch-table
 made-empty plan m = pool-write _ _ _ _ ∙ pool-counts _ ∙ launched-none plan (range 0 (N m))
 
-not-made : (l : Launched) → 0 < launched-number l → l ≡ Made → ⊥
-unfolding launched-number
-not-made l h e = omega (arith, rw e at h)
-
 -- a machine that launch made has no pool
 pub launched-empty : (plan : Plan) (m : Machine) → launch plan m .answer ≡ Made → pool (launch plan m .after .lent) ≡ 0
-unfolding launch refuse launched-number
-launched-empty plan m e =
-    by-test (out-of-range plan (N (m .lent))) (λ t. absurd (not-made OutOfRange (omega arith) (rw t at e)))
-    (λ t. rw t
-    (by-test (areas-meet plan) (λ u. absurd (not-made AreasMeet (omega arith) (rw (t, u) at e)))
-    (λ u. rw u
-    (by-test (unfit-vmsa (page-at (m .lent) (plan .vmsa))) (λ v. absurd (not-made UnfitVmsa (omega arith) (rw (t, u, v) at e)))
-    (λ v. rw v (made-empty plan (m .lent)))))))
+launched-empty plan m e = rw (launch-made plan m e .after) (made-empty plan (m .lent))
 
 -- statement 4 from launch, if runs stay sound and launch gives a sound machine
 pub counted-from-launch-by : ((steps : List Step) (m : Machine) → sound (m .lent) ≡ true → sound (run-steps steps m .lent) ≡ true)

@@ -1,13 +1,12 @@
 -- Statement 4: over each step the pool grows by what is taken in, less what is given back.
 use mathlib.Core.Path.{_≡_, refl, _∙_, ap}
 use mathlib.Core.Bool.{true, false, cond, not, _&&_, _||_, and-eq-true-iff, and-false}
-use mathlib.Core.List.{[]}
 use Prim.Native.Nat.{ℕ, _+_, _-_, _*_, _^_, min, _<_, _≤_}
 use native.Mathlib.Omega.{arith}
-use lib.Dec.{leb, ltb, eqb}
-use lib.ListN.{length, getD}
-use borrow.Author.Tests.{ltb-false, leb-false, eqb-true, not-true, not-false}
-use Rattle.rules.specs.Words.{page-size, records, entries-a-call, multiple, range, exists}
+use lib.Dec.{ltb, eqb}
+use lib.ListN.{length}
+use borrow.Author.Tests.{ltb-false, leb-false, ne-eqb, not-true, not-false}
+use Rattle.rules.specs.Words.{page-size, entries-a-call, multiple, range}
 use Rattle.rules.specs.Answers.{Answered, refuse, code-number, outcome-number}
 use Rattle.rules.specs.declared.Registers.{Registers}
 use Rattle.rules.specs.declared.Outcome.{Outcome}
@@ -16,43 +15,25 @@ use Rattle.rules.specs.declared.Code.{Code}
 use Rattle.rules.specs.declared.Code.the-variants.{Success, BadPending, Parameter, Address}
 use Rattle.rules.specs.declared.ListCall.{ListCall}
 use Rattle.rules.specs.declared.ListCall.the-variants.{Deposit}
-use Rattle.rules.specs.Machine.{Lent, Machine, with-lent, N, page-of, offset-of, page-at, is-live, record-at, vcpu, startup}
+use Rattle.rules.specs.Machine.{Lent, Machine, with-lent, page-of, offset-of, page-at, is-live, record-at, vcpu, startup}
 use Rattle.rules.specs.Steps.{store, mark, may-store, may-mark}
-use Rattle.rules.specs.Sound.{bad-record, pages-sized, sound}
+use Rattle.rules.specs.Sound.{sound}
 use Rattle.rules.specs.Lists.{bad-list-page, in-list, list-count, list-next, store-index, bad-count, bad-next, run-within, list-call}
 use Rattle.rules.specs.Calls.{withdrawn-pages, withdrawn, withdraw}
-use Rattle.rules.specs.Call.{Posed, with-rax, bad-sheet, bad-machine, pending, no-call, protocol, call-number, on-lent, on-rcx, dispatch, handle}
-use Rattle.rules.specs.Call.{clear-pending, set-flag, finish, call}
+use Rattle.rules.specs.Call.{Posed, with-rax, bad-machine, no-call, protocol, call-number, on-lent, on-rcx, handle, clear-pending, set-flag, finish, call}
 use Rattle.rules.specs.Runs.{Step, calls, stores, marks, called, step, pool, handled-as, head-accepted, pages-listed, taken-in, given-back}
-use Rattle.laws.proofs.Ranges.{by-test, every→, or-false}
-use Rattle.laws.proofs.Withdrawals.{list-page-below}
+use Rattle.laws.proofs.Ranges.{by-test, or-false}
 use Rattle.safety.specs.Statements.{last-writes}
-use Rattle.safety.proofs.Sound.Facts.{open-sound}
+use Rattle.safety.proofs.Effects.{withdrawn-sheet}
+use Rattle.safety.proofs.Branches.{Asks, on-handle, called-real}
+use Rattle.safety.proofs.Checks.{Caller, caller-of, List-page, list-page}
+use Rattle.safety.proofs.Sound.Facts.{Sound, open-sound}
+use Rattle.safety.proofs.Sound.Sizes.{page-there, page-whole}
 use Rattle.safety.proofs.Pool.Counts.{pool-table, pool-write, pool-amend}
 use Rattle.safety.proofs.Pool.Pages.{remap-pool, create-pool, delete-pool}
 use Rattle.safety.proofs.Pool.Lists.{pages-none, pvalidate-pool, Deposited, run-deposits}
 use Rattle.safety.proofs.Pool.Bytes.{in-list-written, offset-eight, offset-below, list-behind, in-list-last, table-last}
-use Rattle.safety.proofs.Pool.Withdraw.{withdrawn-pool, withdrawn-sheet, withdrawn-count}
-
--- ---- sizes
-
--- a page below N is in memory, and whole
-module _ (m : Lent) (s : sound m ≡ true) (p : ℕ) (h : p < N m) where
-  memory-length : length (m .memory) ≡ N m
-  unfolding pages-sized
-  memory-length = eqb-true (length (m .memory)) (N m) (and-eq-true-iff (eqb (length (m .memory)) (N m)) _ .0 (open-sound m s .memories) .0)
-
-  -- it is in memory
-  pub page-there : p < length (m .memory)
-  page-there = rw memory-length h
-
-  -- and has its size
-  pub page-whole : length (page-at m p) ≡ page-size
-  unfolding pages-sized page-at
-  page-whole =
-      eqb-true (length (getD (m .memory) p [])) page-size
-      (every→ (λ page. eqb (length page) page-size) (m .memory) p []
-      (and-eq-true-iff (eqb (length (m .memory)) (N m)) _ .0 (open-sound m s .memories) .1) page-there)
+use Rattle.safety.proofs.Pool.Withdraw.{withdrawn-pool, withdrawn-count}
 
 -- ---- the end of a call
 
@@ -79,7 +60,7 @@ module _ (caller : ℕ) (g : Registers) (a : Answered Code (Posed Registers Mach
 -- ---- a call
 
 -- what is to be proved of a step
-unfoldable pub Counted : Step → Machine → Type 0
+unfoldable Counted : Step → Machine → Type 0
 Counted s m = pool (step s m .lent) + given-back s m ≡ pool (m .lent) + taken-in s m
 
 module _ (caller : ℕ) (g : Registers) (m : Machine) where
@@ -147,7 +128,7 @@ module _ (caller : ℕ) (g : Registers) (m : Machine) where
 -- a head that is accepted
 record Accepted (vmpl rcx : ℕ) (m : Lent) : Type 0 where
   aligned : multiple 8 rcx ≡ true
-  page : bad-list-page vmpl rcx m ≡ false
+  page : List-page rcx m
   counts : bad-count rcx m ≡ false
   nexts : bad-next rcx m ≡ false
 
@@ -162,7 +143,7 @@ accepted vmpl rcx m e =
     let both = and-eq-true-iff a b .0 (inner .0) in
     record {
       aligned = both .0;
-      page = not-true (bad-list-page vmpl rcx m) (both .1);
+      page = list-page vmpl rcx m (not-true (bad-list-page vmpl rcx m) (both .1));
       counts = not-true (bad-count rcx m) (inner .1);
       nexts = not-true (bad-next rcx m) (outer .1);
     }
@@ -189,11 +170,6 @@ index-fits budget rcx to m e f h =
     let few = ltb-false 4096 (offset-of rcx + 8 + 8 * n) (or-false (eqb n 0) (ltb 4096 (offset-of rcx + 8 + 8 * n)) e .1) in
     omega (arith, leb-false n (list-next rcx m) f)
 
--- the page of a list that is accepted is one
-list-inside : (vmpl rcx : ℕ) (m : Lent) → bad-list-page vmpl rcx m ≡ false → page-of rcx < N m
-unfolding N
-list-inside = list-page-below
-
 -- the list's numbers are read from memory
 in-list-memory : (w at rcx : ℕ) (m m′ : Lent) → m′ .memory ≡ m .memory → in-list w at rcx m′ ≡ in-list w at rcx m
 unfolding in-list page-at
@@ -217,44 +193,30 @@ success-code = refl
 
 -- ---- a call that is one
 
-module _ (caller : ℕ) (g : Registers) (m : Machine) (s : sound (m .lent) ≡ true) (fine : bad-machine caller (m .lent) ≡ false)
+module _ (caller : ℕ) (g : Registers) (m : Machine) (s : Sound (m .lent)) (fine : bad-machine caller (m .lent) ≡ false)
     (made : no-call caller g (m .lent) ≡ false) where
   real : called caller g m ≡ finish caller g (handle caller (posed caller g m))
-  unfolding called call refuse
-  real = rw (fine, made)
+  real = called-real caller g m fine made
 
-  shapes : (caller < records) × (is-live (record-at (m .lent) caller) ≡ true) × (is-live (record-at (m .lent) 0) ≡ true)
-  unfolding bad-machine bad-sheet record-at
-  shapes =
-      let rows = m .lent .sheet in
-      let above = leb records caller in
-      let dead = not (is-live (getD rows caller [])) in
-      let dead-0 = not (is-live (getD rows 0 [])) in
-      let outer = or-false (above || dead || dead-0) (exists (bad-record (N (m .lent))) rows) fine in
-      let inner = or-false (above || dead) dead-0 (outer .0) in
-      let first = or-false above dead (inner .0) in
-      (leb-false records caller (first .0), not-false _ (first .1), not-false _ (inner .1))
+  shapes : Caller caller (m .lent)
+  shapes = caller-of caller (m .lent) fine
 
   -- the pool is the one that the call itself leaves
   after-pool : pool (called caller g m .after .machine .lent) ≡ pool (handle caller (posed caller g m) .after .machine .lent)
   after-pool = ap (λ a. pool (a .after .machine .lent)) real ∙ finish-pool caller g (handle caller (posed caller g m))
 
-  -- a call that neither takes in nor gives back
-  quiet-call : pool (handle caller (posed caller g m) .after .machine .lent) ≡ pool (m .lent) → eqb (call-number g) 4 ≡ false → eqb (call-number g) 5 ≡ false
-      → Counted (calls caller g) m
-  quiet-call e f h =
-      quiet caller g m (after-pool ∙ e) (taken-none caller g m (other-call caller g m 4 f)) (given-none caller g m (other-call caller g m 5 h))
-
-  protocol-counted : leb 2 (pending caller (m .lent)) ≡ false → eqb (protocol g) 0 ≡ false → Counted (calls caller g) m
-  unfolding handle refuse
-  protocol-counted p e =
-      quiet caller g m (after-pool ∙ rw (p, e)) (taken-none caller g m (other-protocol caller g m 4 e)) (given-none caller g m (other-protocol caller g m 5 e))
+  -- a call of another number leaves the pool if its handling does
+  quiet-call : (a : Answered Code (Posed Registers Machine)) → handle caller (posed caller g m) ≡ a → pool (a .after .machine .lent) ≡ pool (m .lent)
+      → eqb (call-number g) 4 ≡ false → eqb (call-number g) 5 ≡ false → Counted (calls caller g) m
+  quiet-call a is e f h =
+      quiet caller g m (after-pool ∙ ap (λ a. pool (a .after .machine .lent)) is ∙ e) (taken-none caller g m (other-call caller g m 4 f))
+      (given-none caller g m (other-call caller g m 5 h))
 
   -- a call on the lent buffers that leaves the sheet
   module _ (a : Answered Code Lent) (is : handle caller (posed caller g m) ≡ on-lent a (posed caller g m)) (sheet : a .after .sheet ≡ m .lent .sheet) where
     still-live : is-live (record-at (a .after) caller) ≡ true
     unfolding record-at
-    still-live = rw sheet (shapes .1)
+    still-live = rw sheet (shapes .live)
 
     ended : called caller g m
         ≡ record {
@@ -280,26 +242,25 @@ module _ (caller : ℕ) (g : Registers) (m : Machine) (s : sound (m .lent) ≡ t
     ended-pool = rw ended-lent (pool-table (a .after) (last-writes caller (a .after)) (table-last caller (a .after)))
 
     -- the list's numbers as the call itself leaves them
-    list-kept : (w at vmpl : ℕ) → multiple 8 (g .rcx) ≡ true → bad-list-page vmpl (g .rcx) (m .lent) ≡ false
+    list-kept : (w at : ℕ) → multiple 8 (g .rcx) ≡ true → List-page (g .rcx) (m .lent)
         → in-list w at (g .rcx) (called caller g m .after .machine .lent) ≡ in-list w at (g .rcx) (a .after)
     unfolding vcpu startup record-at
-    list-kept w at vmpl mult page =
-        let behind = list-behind (m .lent) s vmpl (g .rcx) mult page in
+    list-kept w at mult page =
+        let behind = list-behind (m .lent) s (g .rcx) mult page in
         rw ended-lent
         (in-list-last caller (g .rcx) w at (a .after)
-        (λ e. omega (arith, behind caller (shapes .0) (shapes .1) (rw sheet at e)))
-        (λ e. omega (arith, behind 0 (omega (arith, shapes .0)) (shapes .2) (rw sheet at e))))
+        (λ e. omega (arith, behind caller (shapes .below) (shapes .live) (rw sheet at e)))
+        (λ e. omega (arith, behind 0 (omega (arith, shapes .below)) (shapes .started) (rw sheet at e))))
 
   -- a pending byte above 1
-  pending-counted : leb 2 (pending caller (m .lent)) ≡ true → Counted (calls caller g) m
-  unfolding handle refuse on-lent with-lent list-next
-  pending-counted p =
+  pending-counted : handle caller (posed caller g m) ≡ record { answer = BadPending; after = posed caller g m } → Counted (calls caller g) m
+  unfolding on-lent with-lent list-next
+  pending-counted is =
       let a : Answered Code Lent = record { answer = BadPending; after = m .lent } in
-      let is : handle caller (posed caller g m) ≡ on-lent a (posed caller g m) = rw p in
       let vmpl = vcpu (m .lent) caller .vmpl in
       quiet caller g m (ended-pool a is refl)
       (by-test (head-accepted vmpl (g .rcx) (m .lent))
-      (λ t. let h = accepted vmpl (g .rcx) (m .lent) t in taken-still caller g m (list-kept a is refl 2 2 vmpl (h .aligned) (h .page)))
+      (λ t. let h = accepted vmpl (g .rcx) (m .lent) t in taken-still caller g m (list-kept a is refl 2 2 (h .aligned) (h .page)))
       (taken-head caller g m))
       (given-code caller g m (rw (ended-rax a is refl) pending-code))
 
@@ -327,15 +288,14 @@ module _ (caller : ℕ) (g : Registers) (m : Machine) (s : sound (m .lent) ≡ t
       index-after : list-next (g .rcx) (called caller g m .after .machine .lent) ≡ deposits .to
       unfolding list-next store-index page-size
       index-after =
-          let vmpl = vcpu (m .lent) caller .vmpl in
           let rcx = g .rcx in
-          let h = accepted vmpl rcx (m .lent) acc in
-          let inside = list-inside vmpl rcx (m .lent) (h .page) in
+          let h = accepted (vcpu (m .lent) caller .vmpl) rcx (m .lent) acc in
+          let there = page-there (m .lent) (s .memories) (h .page .inside) in
           let room : offset-of rcx + 2 + 2 ≤ length (page-at (m .lent) (page-of rcx))
-          = rw (page-whole (m .lent) s (page-of rcx) inside) (omega (arith, offset-below rcx, offset-eight rcx (h .aligned))) in
-          list-kept deposit is (deposits .sheet) 2 2 vmpl (h .aligned) (h .page)
+          = rw (page-whole (m .lent) (s .memories) (page-of rcx) there) (omega (arith, offset-below rcx, offset-eight rcx (h .aligned))) in
+          list-kept deposit is (deposits .sheet) 2 2 (h .aligned) (h .page)
           ∙ in-list-memory 2 2 rcx (store-index (deposits .to) rcx (m .lent)) (deposit .after) (deposits .memory)
-          ∙ in-list-written 2 2 (offset-of rcx + 2) (deposits .to) rcx (m .lent) refl (page-there (m .lent) s (page-of rcx) inside) room
+          ∙ in-list-written 2 2 (offset-of rcx + 2) (deposits .to) rcx (m .lent) refl there room
           (index-fits entries-a-call rcx (deposits .to) (m .lent) (h .counts) (h .nexts) (deposits .most))
 
       deposit-taken : taken-in (calls caller g) m ≡ pages-listed (g .rcx) (m .lent) (range from (deposits .to - from))
@@ -366,7 +326,7 @@ module _ (caller : ℕ) (g : Registers) (m : Machine) (s : sound (m .lent) ≡ t
         let a : Answered Code Lent = record { answer = code; after = m .lent } in
         quiet caller g m (ended-pool a is refl) nothing-taken (given-code caller g m (rw (ended-rax a is refl) e))
 
-    module _ (mult : multiple 8 (g .rcx) ≡ true) (page : bad-list-page (vcpu (m .lent) caller .vmpl) (g .rcx) (m .lent) ≡ false)
+    module _ (mult : multiple 8 (g .rcx) ≡ true) (page : List-page (g .rcx) (m .lent))
         (is : handle caller (posed caller g m)
         ≡ on-lent (record { answer = Success; after = withdrawn (vcpu (m .lent) caller .vmpl) (g .rcx) (m .lent) }) (posed caller g m)) where
       abbrev withdrawal : Answered Code Lent
@@ -378,13 +338,11 @@ module _ (caller : ℕ) (g : Registers) (m : Machine) (s : sound (m .lent) ≡ t
       count-after : in-list 2 0 (g .rcx) (called caller g m .after .machine .lent) ≡ length (withdrawn-pages (g .rcx) (m .lent))
       unfolding page-size
       count-after =
-          let vmpl = vcpu (m .lent) caller .vmpl in
           let rcx = g .rcx in
-          let inside = list-inside vmpl rcx (m .lent) page in
+          let there = page-there (m .lent) (s .memories) (page .inside) in
           let room : offset-of rcx + 2 ≤ length (page-at (m .lent) (page-of rcx))
-          = rw (page-whole (m .lent) s (page-of rcx) inside) (omega (arith, offset-below rcx, offset-eight rcx mult)) in
-          list-kept withdrawal is withdrawal-sheet 2 0 vmpl mult page
-          ∙ withdrawn-count vmpl rcx (m .lent) (page-there (m .lent) s (page-of rcx) inside) room
+          = rw (page-whole (m .lent) (s .memories) (page-of rcx) there) (omega (arith, offset-below rcx, offset-eight rcx mult)) in
+          list-kept withdrawal is withdrawal-sheet 2 0 mult page ∙ withdrawn-count (vcpu (m .lent) caller .vmpl) rcx (m .lent) there room
 
       withdrawal-given : given-back (calls caller g) m ≡ length (withdrawn-pages (g .rcx) (m .lent))
       unfolding given-back handled-as
@@ -409,42 +367,38 @@ module _ (caller : ℕ) (g : Registers) (m : Machine) (s : sound (m .lent) ≡ t
         let odd = not (multiple 8 (g .rcx)) in
         by-test (odd || eqb (offset-of (g .rcx)) 0xFF8) (λ t. withdraw-refused Parameter parameter-code (rw t at is))
         (λ t. by-test (bad-list-page vmpl (g .rcx) (m .lent)) (λ u. withdraw-refused Address address-code (rw (t, u) at is))
-        (λ u. withdraw-done (not-false _ (or-false odd (eqb (offset-of (g .rcx)) 0xFF8) t .0)) u (rw (t, u) at is)))
+        (λ u. withdraw-done (not-false _ (or-false odd (eqb (offset-of (g .rcx)) 0xFF8) t .0)) (list-page vmpl (g .rcx) (m .lent) u) (rw (t, u) at is)))
 
-  -- the eight calls, and a call of another number
+  -- the eight calls, and what is refused before them
   handle-counted : Counted (calls caller g) m
-  unfolding handle refuse dispatch on-lent on-rcx with-lent
+  unfolding on-lent on-rcx with-lent
   handle-counted =
-      let n = call-number g in
-      let other : (k : ℕ) → n ≡ k → eqb k 4 ≡ false → eqb n 4 ≡ false = λ k e f. rw e f in
-      let other′ : (k : ℕ) → n ≡ k → eqb k 5 ≡ false → eqb n 5 ≡ false = λ k e f. rw e f in
-      by-test (leb 2 (pending caller (m .lent))) pending-counted
-      (λ p. by-test (eqb (protocol g) 0)
-      (λ q. let zero-protocol = eqb-true (protocol g) 0 q in
-      by-test (eqb n 0)
-      (λ t. let k = eqb-true n 0 t in
-      quiet-call (rw (p, q, t) (remap-pool caller (m .lent) s (shapes .0) (shapes .1) (g .rcx))) (other 0 k refl) (other′ 0 k refl))
-      (λ t. by-test (eqb n 1)
-      (λ u. let k = eqb-true n 1 u in
-      quiet-call (rw (p, q, t, u) (pvalidate-pool caller (g .rcx) entries-a-call (m .lent))) (other 1 k refl) (other′ 1 k refl))
-      (λ u. by-test (eqb n 2)
-      (λ v. let k = eqb-true n 2 v in
-      quiet-call (rw (p, q, t, u, v) (create-pool caller (g .rcx) (g .rdx) (g .r8) (m .lent))) (other 2 k refl) (other′ 2 k refl))
-      (λ v. by-test (eqb n 3)
-      (λ w. let k = eqb-true n 3 w in
-      quiet-call (rw (p, q, t, u, v, w) (delete-pool caller (g .rcx) (m .lent) s)) (other 3 k refl) (other′ 3 k refl))
-      (λ w. by-test (eqb n 4) (λ x. deposit-counted (rw (p, q, t, u, v, w, x)) zero-protocol (eqb-true n 4 x))
-      (λ x. by-test (eqb n 5) (λ y. withdraw-counted zero-protocol (eqb-true n 5 y) (rw (p, q, t, u, v, w, x, y)))
-      (λ y. quiet-call
-      (rw (p, q, t, u, v, w, x, y) (by-test (eqb n 6) (λ z. rw z) (λ z. rw z (by-test (eqb n 7) (λ z′. rw z′) (λ z′. rw z′))))) x y)))))))
-      (protocol-counted p))
+      let before = posed caller g m in
+      let l = m .lent in
+      let other : (k n : ℕ) → Asks k g → eqb k n ≡ false → eqb (call-number g) n ≡ false = λ k n e f. rw (e .number) f in
+      on-handle caller before (λ a. handle caller before ≡ a → Counted (calls caller g) m)
+      (record {
+        bad-pending = pending-counted;
+        unknown-protocol = λ e is. quiet caller g m (after-pool ∙ ap (λ a. pool (a .after .machine .lent)) is)
+            (taken-none caller g m (other-protocol caller g m 4 e)) (given-none caller g m (other-protocol caller g m 5 e));
+        remaps = λ e is. quiet-call _ is (remap-pool caller l s (shapes .below) (shapes .live) (g .rcx)) (other 0 4 e refl) (other 0 5 e refl);
+        validates = λ e is. quiet-call _ is (pvalidate-pool caller (g .rcx) entries-a-call l) (other 1 4 e refl) (other 1 5 e refl);
+        creates = λ e is. quiet-call _ is (create-pool caller (g .rcx) (g .rdx) (g .r8) l) (other 2 4 e refl) (other 2 5 e refl);
+        deletes = λ e is. quiet-call _ is (delete-pool caller (g .rcx) l s) (other 3 4 e refl) (other 3 5 e refl);
+        deposits = λ e is. deposit-counted is (e .spoken) (e .number);
+        withdraws = λ e is. withdraw-counted (e .spoken) (e .number) is;
+        queries = λ e is. quiet-call _ is refl (other 6 4 e refl) (other 6 5 e refl);
+        configures = λ e is. quiet-call _ is refl (other 7 4 e refl) (other 7 5 e refl);
+        unknown-call = λ e is. quiet-call _ is refl (ne-eqb (call-number g) 4 (λ h. omega arith)) (ne-eqb (call-number g) 5 (λ h. omega arith));
+      })
+      refl
 
 -- statement 4, of a step
 pub step-counted : (s : Step) (m : Machine) → sound (m .lent) ≡ true → pool (step s m .lent) + given-back s m ≡ pool (m .lent) + taken-in s m
 unfolding Counted step with-lent store mark refuse given-back taken-in
 step-counted (calls caller g) m s =
     by-test (bad-machine caller (m .lent)) (bad-counted caller g m)
-    (λ t. by-test (no-call caller g (m .lent)) (none-counted caller g m t) (handle-counted caller g m s t))
+    (λ t. by-test (no-call caller g (m .lent)) (none-counted caller g m t) (handle-counted caller g m (open-sound _ s) t))
 step-counted (stores c p offset bytes) m s =
     by-test (not (may-store c p offset (length bytes) (m .lent))) (λ t. rw t) (λ t. rw (t, pool-write p offset bytes (m .lent)))
 step-counted (marks i value) m s =

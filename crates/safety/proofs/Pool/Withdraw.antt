@@ -1,35 +1,28 @@
 -- Withdraw: the pool shrinks by the pages given back, and their number stands in the first two bytes of the list.
 use mathlib.Core.Path.{_≡_, refl, _∙_, ap}
-use mathlib.Core.Bool.{Bool, true, false, and-eq-true-iff}
+use mathlib.Core.Bool.{true, false}
 use mathlib.Core.Logic.{inl}
-use mathlib.Core.List.{List, [], _∷_}
+use mathlib.Core.List.{[]}
 use Prim.Native.Nat.{ℕ, _+_, _-_, _/_, _^_, _<_, _≤_}
 use native.Mathlib.Omega.{arith}
-use lib.ListN.{length, getD, take, length-take}
-use borrow.Author.Tests.{eqb-true}
-use Rattle.rules.specs.Words.{page-size, little, places, every, each}
-use Rattle.rules.specs.Machine.{Lent, page-of, offset-of, page-at, write, with-memory, owner, plain, table-byte, change, own, grant}
+use lib.ListN.{length, getD, length-take}
+use Rattle.rules.specs.Words.{page-size, little, places, each}
+use Rattle.rules.specs.Machine.{Lent, N, page-of, offset-of, page-at, write, plain, table-byte, change, own, grant}
 use Rattle.rules.specs.Lists.{in-list}
 use Rattle.rules.specs.Calls.{is-free, withdrawn-pages, give-back, gpas, withdrawn}
 use Rattle.rules.specs.Runs.{pool}
-use Rattle.laws.proofs.Ranges.{every-take, →absent, places-read, rising-take, rising-places}
-use Rattle.laws.proofs.Counts.{count-each-down, memory-each, sheet-each}
+use Rattle.laws.proofs.Ranges.{→absent}
+use Rattle.laws.proofs.Counts.{count-each-down, memory-each}
 use Rattle.laws.proofs.TableByte.{owner-own, owner-grant}
 use Rattle.safety.specs.Statements.{in-pool}
+use Rattle.safety.proofs.Small.{every-weaker}
+use Rattle.safety.proofs.Checks.{free-owner, withdrawn-rising, withdrawn-free}
 use Rattle.safety.proofs.Pool.Counts.{pooled, in-pool-owner, pool-counts, pool-write}
 use Rattle.safety.proofs.Pool.Bytes.{in-list-write, in-list-written}
 
--- a weaker test
-every-weaker : {A : Type 0} (f g : A → Bool) (xs : List A) → ((x : A) → f x ≡ true → g x ≡ true) → every f xs ≡ true → every g xs ≡ true
-unfolding every
-every-weaker f g [] h e = refl
-every-weaker f g (x ∷ xs) h e =
-    let both = and-eq-true-iff (f x) (every f xs) .0 e in
-    rw (h x (both .0), every-weaker f g xs h (both .1))
-
 free-in-pool : (b : ℕ) → is-free b ≡ true → in-pool b ≡ true
-unfolding is-free pooled
-free-in-pool b e = in-pool-owner b 3 (eqb-true (owner b) 3 e)
+unfolding pooled
+free-in-pool b e = in-pool-owner b 3 (free-owner b e)
 
 given-out : (vmpl b : ℕ) → in-pool (grant vmpl (own plain b)) ≡ false
 unfolding pooled
@@ -38,16 +31,13 @@ given-out vmpl b = in-pool-owner _ 0 (owner-grant vmpl (own plain b) ∙ owner-o
 module _ (vmpl rcx : ℕ) (m : Lent) where
   -- pages given back leave the pool
   given-pool : pool (each (give-back vmpl) (withdrawn-pages rcx m) m) + length (withdrawn-pages rcx m) ≡ pool m
-  unfolding withdrawn-pages give-back change table-byte
+  unfolding give-back change N
   given-pool =
-      let k = (page-size - offset-of rcx - 8) / 8 in
       let f : ℕ → ℕ = λ b. grant vmpl (own plain b) in
-      let ps = take k (places is-free 0 (m .table)) in
-      let free = every-take (λ p. is-free (table-byte m p)) k (places is-free 0 (m .table))
-      (places-read is-free 0 (m .table) 0 (table-byte m) (λ i h. ap (table-byte m) (omega arith))) in
+      let ps = withdrawn-pages rcx m in
       rw (pool-counts m, pool-counts (each (give-back vmpl) ps m))
-      (count-each-down f (give-back vmpl) (λ p m. refl) in-pool (rising-take k (rising-places is-free 0 (m .table))) m (omega arith)
-      (every-weaker (λ p. is-free (table-byte m p)) (λ p. in-pool (table-byte m p)) ps (λ p. free-in-pool (table-byte m p)) free)
+      (count-each-down f (give-back vmpl) (λ p m. refl) in-pool (withdrawn-rising rcx m) m (omega arith)
+      (every-weaker (λ p. is-free (table-byte m p)) (λ p. in-pool (table-byte m p)) ps (λ p. free-in-pool (table-byte m p)) (withdrawn-free rcx m))
       (→absent (λ p. in-pool (f (table-byte m p))) ps 0 (λ i h. given-out vmpl (table-byte m (getD ps i 0)))))
 
   -- the pool after Withdraw
@@ -63,17 +53,8 @@ module _ (vmpl rcx : ℕ) (m : Lent) where
   unfolding page-at
   page-given = ap (λ pages. getD pages (page-of rcx) []) given-memory
 
-  given-sheet : each (give-back vmpl) (withdrawn-pages rcx m) m .sheet ≡ m .sheet
-  unfolding give-back
-  given-sheet = sheet-each _ (withdrawn-pages rcx m) m
-
-  -- the sheet stays
-  pub withdrawn-sheet : withdrawn vmpl rcx m .sheet ≡ m .sheet
-  unfolding withdrawn write with-memory
-  withdrawn-sheet = given-sheet
-
   -- no more pages than two bytes can count
-  pub withdrawn-few : length (withdrawn-pages rcx m) < 256 ^ 2
+  withdrawn-few : length (withdrawn-pages rcx m) < 256 ^ 2
   unfolding withdrawn-pages page-size
   withdrawn-few = omega (arith, length-take ((4096 - offset-of rcx - 8) / 8) (places is-free 0 (m .table)))
 

@@ -1,18 +1,18 @@
 -- Laws of the claims on a page: what a record claims, the claims after one record changed, and what an owner that agrees with them says.
 use mathlib.Core.Path.{_≡_, refl, sym, _∙_, ap}
-use mathlib.Core.Bool.{Bool, true, false, cond, _&&_, _||_, true≢false, and-eq-true-iff}
+use mathlib.Core.Bool.{Bool, true, false, cond, _&&_, _||_, true≢false, or-true, and-eq-true-iff}
 use mathlib.Core.List.{List, [], _∷_, _++_, append-assoc, append-nil}
 use Prim.Native.Nat.{ℕ, suc, _+_, _<_}
 use native.Mathlib.Omega.{arith}
 use lib.Dec.{eqb}
 use lib.ListN.{length, getD, take, drop, set, length-append}
-use lib.Seq.{split-at, set-split, getD-set-other, lt-length-set}
-use borrow.Author.Tests.{eqb-true, eqb-false, eq-eqb}
+use lib.Seq.{split-at, set-split}
+use borrow.Author.Tests.{eqb-true, eq-eqb}
 use Rattle.rules.specs.Words.{every, exists}
-use Rattle.rules.specs.Machine.{fields, is-live, holds, zeros}
+use Rattle.rules.specs.Machine.{fields, is-live, holds}
 use Rattle.rules.specs.Sound.{claim, claims, agrees}
 use Rattle.laws.proofs.Ranges.{by-test, every-append, exists-append}
-use Rattle.laws.proofs.Records.{is-live-zeros}
+use Rattle.safety.proofs.Small.{empty, inhabited}
 
 -- ---- what one record claims
 
@@ -57,23 +57,9 @@ unfolding exists
 claim-pool r e h =
     let p = fields r .pool in
     let front = says (eqb (fields r .vmsa) p) 5 ++ says (eqb (fields r .calling) p) 1 in
-    let last : (b : Bool) → (b || true) ≡ true = λ b. by-test b (λ t. rw t) (λ t. rw t) in
-    rw (claim-live r p e, eq-eqb p p refl, h, exists-append (eqb 4) front (4 ∷ [])) (last (exists (eqb 4) front))
+    rw (claim-live r p e, eq-eqb p p refl, h, exists-append (eqb 4) front (4 ∷ [])) (or-true (exists (eqb 4) front))
 
 -- ---- the claims of a sheet
-
-empty : (xs : List ℕ) → length xs ≡ 0 → xs ≡ []
-empty [] e = refl
-empty (x ∷ xs) e = absurd (omega arith)
-
-inhabited : (test : ℕ → Bool) (xs : List ℕ) → exists test xs ≡ true → 0 < length xs
-unfolding exists
-inhabited test [] e = absurd (true≢false (sym e))
-inhabited test (x ∷ xs) e = omega arith
-
-no-claim : (c : ℕ) → exists (eqb c) [] ≡ true → ⊥
-unfolding exists
-no-claim c e = true≢false (sym e)
 
 -- two sheets in a row
 pub claims-append : (xs ys : List (List ℕ)) (p : ℕ) → claims (xs ++ ys) p ≡ claims xs p ++ claims ys p
@@ -109,9 +95,8 @@ module _ (sheet : List (List ℕ)) (i : ℕ) (p : ℕ) (h : i < length sheet) wh
   claimed c e =
       let before = claims-before i sheet p in
       let mine = claim (getD sheet i []) p in
-      let last : (b : Bool) → (b || true) ≡ true = λ b. by-test b (λ t. rw t) (λ t. rw t) in
       rw (claims-split, exists-append (eqb c) before (mine ++ claims-after i sheet p), exists-append (eqb c) mine (claims-after i sheet p), e)
-      (last (exists (eqb c) before))
+      (or-true (exists (eqb c) before))
 
   -- how many claims there are
   pub claims-sizes : length (claims sheet p)
@@ -149,10 +134,8 @@ nameable c = eqb c 5 || eqb c 1 || eqb c 4
 claim-nameable : (r : List ℕ) (p : ℕ) → every nameable (claim r p) ≡ true
 unfolding every nameable
 claim-nameable r p =
-    let v : (b : Bool) → every nameable (says b 5) ≡ true = λ b. by-test b (λ t. rw t) (λ t. rw t) in
-    let c : (b : Bool) → every nameable (says b 1) ≡ true = λ b. by-test b (λ t. rw t) (λ t. rw t) in
-    let h : (b : Bool) → every nameable (says b 4) ≡ true = λ b. by-test b (λ t. rw t) (λ t. rw t) in
-    by-test (is-live r) (λ t. simp (claim-live r p t, every-append, v, c, h)) (λ t. rw (claim-dead r p t))
+    let one : (o : ℕ) → nameable o ≡ true → (b : Bool) → every nameable (says b o) ≡ true = λ o e b. by-test b (λ t. rw (t, e)) (λ t. rw t) in
+    by-test (is-live r) (λ t. simp (claim-live r p t, every-append, one 5 refl, one 1 refl, one 4 refl)) (λ t. rw (claim-dead r p t))
 
 -- each claim is one of them
 pub claims-nameable : (sheet : List (List ℕ)) (p : ℕ) → every nameable (claims sheet p) ≡ true
@@ -195,15 +178,3 @@ module _ (sheet : List (List ℕ)) (i : ℕ) (p o : ℕ) (h : i < length sheet) 
   unclaimed-alone n =
       let none : length (claims sheet p) ≡ 0 = ap length (unclaimed sheet p o n a) in
       rw (empty (claim (getD sheet i []) p) (omega (arith, claims-sizes sheet i p h))) (unclaimed sheet p o n a)
-
-  -- no other record claims it
-  pub claimed-once : (c d j : ℕ) → exists (eqb c) (claim (getD sheet i []) p) ≡ true → exists (eqb d) (claim (getD sheet j []) p) ≡ true
-      → j < length sheet → j ≡ i
-  claimed-once c d j e f k =
-      let without = set sheet i (zeros 0) in
-      by-test (eqb j i) (λ t. eqb-true j i t)
-      (λ t.
-      let gone : claims without p ≡ [] = claims-alone sheet i p h (claimed-alone c e) (zeros 0) ∙ claim-dead (zeros 0) p (is-live-zeros 0) in
-      let kept : exists (eqb d) (claim (getD without j []) p) ≡ true = rw (getD-set-other sheet i j (zeros 0) [] (eqb-false j i t)) f in
-      let there = claimed without j p (lt-length-set sheet i (zeros 0) k) d kept in
-      absurd (no-claim d (rw gone at there)))

@@ -1,15 +1,15 @@
 -- A sound machine as facts that can be handed about: right sizes, each page right and each record without a fault; and back again.
-use mathlib.Core.Path.{_≡_, refl, sym, _∙_}
-use mathlib.Core.Bool.{Bool, true, false, cond, not, _&&_, _||_, true≢false, and-eq-true-iff}
-use mathlib.Core.List.{List, []}
+use mathlib.Core.Path.{_≡_, refl}
+use mathlib.Core.Bool.{Bool, true, false, cond, not, _&&_, _||_, and-eq-true-iff}
+use mathlib.Core.List.{List}
 use Prim.Native.Nat.{ℕ, _<_, zero-le}
 use native.Mathlib.Omega.{arith}
 use lib.Dec.{eqb}
-use borrow.Author.Tests.{eqb-true, eq-eqb}
+use borrow.Author.Tests.{eqb-true, eq-eqb, not-true}
 use Rattle.rules.specs.Words.{records, range, every}
 use Rattle.rules.specs.Machine.{Lent, N, owner, plain, valid, table-byte, startup}
 use Rattle.rules.specs.Sound.{claims, agrees, well-permitted, page-fault, record-fault, table-sized, pages-sized, sound}
-use Rattle.laws.proofs.Ranges.{by-test, every-range→, →every-range}
+use Rattle.laws.proofs.Ranges.{every-range→, →every-range}
 
 -- a page whose owner agrees with what is claimed for it, that is valid unless plain, and that is permitted as it should be
 pub record Page-right (c : ℕ) (cs : List ℕ) (b : ℕ) : Type 0 where
@@ -17,15 +17,12 @@ pub record Page-right (c : ℕ) (cs : List ℕ) (b : ℕ) : Type 0 where
   pub validated : (eqb (owner b) plain || valid b) ≡ true
   pub allowed : well-permitted c b ≡ true
 
+-- a sound machine
 pub record Sound (m : Lent) : Type 0 where
   pub tables : table-sized m ≡ true
   pub memories : pages-sized m ≡ true
   pub pages : (p : ℕ) → p < N m → Page-right (startup m .vmpl) (claims (m .sheet) p) (table-byte m p)
   pub rows : (i : ℕ) → i < records → record-fault m i ≡ false
-
-not-true : {b : Bool} → not b ≡ true → b ≡ false
-not-true {b = true} e = absurd (true≢false (sym e))
-not-true {b = false} e = refl
 
 -- three tests in a row that all fail, and the reverse
 passed : (a o v w : Bool) → _≡_ {A = ℕ} (cond (not a) 1 (cond (not o && not v) 2 (cond (not w) 3 0))) 0 → (a ≡ true) × ((o || v) ≡ true) × (w ≡ true)
@@ -68,7 +65,7 @@ module _ (m : Lent) where
         tables = both .0;
         memories = both .1;
         pages = λ p h. faultless p (eqb-true _ _ (every-range→ fine 0 (N m) (inner .1) p zero-le (omega arith)));
-        rows = λ i h. not-true (every-range→ (λ i. not (record-fault m i)) 0 records (outer .1) i zero-le (omega arith));
+        rows = λ i h. not-true _ (every-range→ (λ i. not (record-fault m i)) 0 records (outer .1) i zero-le (omega arith));
       }
 
   -- and what suffices for it

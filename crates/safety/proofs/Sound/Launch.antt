@@ -1,35 +1,36 @@
 -- A launch that is made gives a sound machine (statement 0).
 use mathlib.Core.Path.{_≡_, refl, sym, _∙_, ap}
-use mathlib.Core.Bool.{Bool, true, false, cond, not, _&&_, _||_, true≢false, and-eq-true-iff}
+use mathlib.Core.Bool.{Bool, true, false, cond, not, _||_, true≢false, and-eq-true-iff}
 use mathlib.Core.List.{List, [], _∷_, _++_, map, append-nil}
 use Prim.Native.Nat.{ℕ, zero, suc, _+_, _-_, _<_, _≤_}
 use native.Mathlib.Omega.{arith}
 use native.Mathlib.Nat.{zero-add}
 use lib.Dec.{eqb, ltb, leb}
 use lib.ListN.{length, getD, replicate, length-map, getD-replicate}
-use borrow.Author.Tests.{eqb-true, eqb-false, eq-eqb, ne-eqb, leb-true, le-ltb, lt-leb, not-false}
+use borrow.Author.Tests.{eqb-true, eq-eqb, ne-eqb, leb-true, not-false}
 use Rattle.rules.specs.declared.Plan.{Plan}
-use Rattle.rules.specs.declared.Launched.{Launched}
-use Rattle.rules.specs.declared.Launched.the-variants.{Made, OutOfRange, AreasMeet, UnfitVmsa}
-use Rattle.rules.specs.Words.{least-pages, most-pages, records, record-size, records-without-pool, between, bits, bit, little, number}
-use Rattle.rules.specs.Words.{range, every, count}
-use Rattle.rules.specs.Answers.{refuse, launched-number}
+use Rattle.rules.specs.Words.{most-pages, records, record-size, records-without-pool, between, bits, bit, little, number, range, every, count}
 use Rattle.rules.specs.Machine.{Lent, N, page-at, zeros, owner, valid, permitted, table-byte, fields, laid-out, is-live, holds, needs-page}
 use Rattle.rules.specs.Machine.{record-at, vcpu, startup, vmsa-vmpl, efer}
-use Rattle.rules.specs.Sound.{bad-names, bad-record, claim, claims, agrees, live-fault, record-fault, table-sized, pages-sized, sound}
-use Rattle.rules.specs.Launch.{in-monitor, out-of-range, areas-meet, unfit-vmsa, launch-byte, launch-table, launch-record, launch-sheet, made, launch}
-use Rattle.laws.proofs.Numbers.{number-little-fits, zeros-at, length-zeros}
-use Rattle.laws.proofs.Ranges.{by-test, length-range, →every, or-false}
-use Rattle.laws.proofs.Records.{length-laid-out, fields-zeros, is-live-zeros}
+use Rattle.rules.specs.Sound.{claim, claims, agrees, record-fault, table-sized, pages-sized, sound}
+use Rattle.rules.specs.Launch.{in-monitor, out-of-range, areas-meet, unfit-vmsa, launch-byte, launch-table, launch-record, launch-sheet, made}
+use Rattle.laws.proofs.Numbers.{number-little-fits, length-zeros}
+use Rattle.laws.proofs.Ranges.{by-test, length-range, or-false}
+use Rattle.laws.proofs.Records.{length-laid-out, is-live-zeros}
 use Rattle.laws.proofs.FlatLaunch.{in-range}
 use Rattle.safety.specs.Statements.{Launched-sound}
+use Rattle.safety.proofs.Small.{flip}
+use Rattle.safety.proofs.Checks.{launch-made}
 use Rattle.safety.proofs.Sound.Facts.{Page-right, Sound, close-sound}
+use Rattle.safety.proofs.Sound.Sizes.{table-sizes, few-pages, pages-kept}
+use Rattle.safety.proofs.Sound.Claims.{claim-dead}
+use Rattle.safety.proofs.Sound.Rows.{has-apic, close-row, close-dead}
 use Rattle.safety.proofs.Sound.OnePage.{write-sound, right-open, right-sealed, right-invalid}
 
 -- ---- the table
 
 -- element i of a list made of a range
-pub getD-map-range : (f : ℕ → ℕ) (first n i d : ℕ) → i < n → getD (map f (range first n)) i d ≡ f (first + i)
+getD-map-range : (f : ℕ → ℕ) (first n i d : ℕ) → i < n → getD (map f (range first n)) i d ≡ f (first + i)
 unfolding range
 getD-map-range f first zero i d h = absurd (omega arith)
 getD-map-range f first (suc n) zero d h = ap f (omega arith)
@@ -48,22 +49,15 @@ full (suc (suc (suc (suc c)))) b x y z e =
 
 -- ---- a sheet of zeros
 
-claim-zeros : (n p : ℕ) → claim (zeros n) p ≡ []
-unfolding claim
-claim-zeros n p = rw (is-live-zeros n)
-
 claims-zeros : (k n p : ℕ) → claims (replicate k (zeros n)) p ≡ []
 unfolding claims
 claims-zeros zero n p = refl
-claims-zeros (suc k) n p = rw (claim-zeros n p) (claims-zeros k n p)
+claims-zeros (suc k) n p = rw (claim-dead (zeros n) p (is-live-zeros n)) (claims-zeros k n p)
 
-count-zeros : (k n a : ℕ) → count (λ r. is-live r && eqb (fields r .apic) a) (replicate k (zeros n)) ≡ 0
+count-zeros : (k n a : ℕ) → count (has-apic a) (replicate k (zeros n)) ≡ 0
 unfolding count
 count-zeros zero n a = refl
 count-zeros (suc k) n a = rw (is-live-zeros n) (count-zeros k n a)
-
-every-zeros : (n : ℕ) → every (eqb 0) (zeros n) ≡ true
-every-zeros n = →every (eqb 0) (zeros n) 0 (λ i h. rw (zeros-at n i))
 
 -- ---- a launch that passes its tests
 
@@ -92,18 +86,9 @@ module _ (plan : Plan) (l : Lent) (tables : table-sized l ≡ true) (memories : 
   unfolding unfit-vmsa
   vmpl-fit = not-false _ (or-false (not (between 1 3 (vmsa-vmpl page))) (not (bit 12 (efer page))) fit .0)
 
-  sized : ((between least-pages most-pages (N l) ≡ true) × (eqb (length (l .sheet)) records ≡ true))
-      × (every (λ r. eqb (length r) record-size) (l .sheet) ≡ true)
-  unfolding table-sized
-  sized =
-      let a = between least-pages most-pages (N l) in
-      let b = eqb (length (l .sheet)) records in
-      let outer = and-eq-true-iff (a && b) (every (λ r. eqb (length r) record-size) (l .sheet)) .0 tables in
-      (and-eq-true-iff a b .0 (outer .0), outer .1)
-
   small : N l ≤ 8192
-  unfolding between most-pages
-  small = leb-true _ _ (and-eq-true-iff (leb least-pages (N l)) (leb (N l) 8192) .0 (sized .0 .0) .1)
+  unfolding most-pages
+  small = few-pages l tables
 
   -- the sizes
   same-N : N base ≡ N l
@@ -116,11 +101,10 @@ module _ (plan : Plan) (l : Lent) (tables : table-sized l ≡ true) (memories : 
 
   tables-made : table-sized base ≡ true
   unfolding table-sized launch-sheet records every
-  tables-made = rw (same-N, sized .0 .0, row-length, length-zeros record-size, eq-eqb record-size record-size refl)
+  tables-made = rw (same-N, table-sizes l tables .0, row-length, length-zeros record-size, eq-eqb record-size record-size refl)
 
   memories-made : pages-sized base ≡ true
-  unfolding pages-sized
-  memories-made = rw same-N memories
+  memories-made = pages-kept l memories base refl same-N
 
   -- the fields of record 0
   row-live : is-live row ≡ true
@@ -135,9 +119,9 @@ module _ (plan : Plan) (l : Lent) (tables : table-sized l ≡ true) (memories : 
   unfolding fields launch-record laid-out
   row-vmpl = refl
 
-  row-flags : (fields row .live ≡ 1) × ((fields row .running ≡ 0) × (fields row .holding ≡ 0))
+  row-flags : (fields row .running ≡ 0) × (fields row .holding ≡ 0)
   unfolding fields launch-record laid-out
-  row-flags = (refl, (refl, refl))
+  row-flags = (refl, refl)
 
   row-pool : fields row .pool ≡ 0
   unfolding fields launch-record laid-out little number
@@ -177,9 +161,6 @@ module _ (plan : Plan) (l : Lent) (tables : table-sized l ≡ true) (memories : 
   abbrev right : ℕ → ℕ → Type 0
   right p b = Page-right (vmsa-vmpl page) (cond (eqb (plan .vmsa) p) (5 ∷ []) [] ++ cond (eqb (plan .calling) p) (1 ∷ []) []) b
 
-  flip : (p q : ℕ) → eqb p q ≡ false → eqb q p ≡ false
-  flip p q e = ne-eqb q p (λ k. eqb-false p q e (sym k))
-
   -- the rest, where no record claims the page
   rest-right : (p : ℕ) → eqb (plan .vmsa) p ≡ false → eqb (plan .calling) p ≡ false → (b : Bool) → right p (cond b 0x78 0x00)
   unfolding agrees owner valid bits bit
@@ -207,35 +188,19 @@ module _ (plan : Plan) (l : Lent) (tables : table-sized l ≡ true) (memories : 
 
   -- ---- each record
 
-  row-bad : bad-record (N base) row ≡ false
-  unfolding bad-record bad-names
-  row-bad =
-      rw (
-        row-flags .0,
-        row-flags .1 .0,
-        row-flags .1 .1,
-        row-live,
-        row-holds,
-        row-vmpl,
-        vmpl-fit,
-        row-vmsa,
-        row-calling,
-        same-N,
-        lt-leb (N l) (plan .vmsa) (inside .0),
-        lt-leb (N l) (plan .calling) (inside .1),
-      )
-
   vcpu-made : vcpu base 0 ≡ fields row
   unfolding vcpu record-at launch-sheet
   vcpu-made = refl
 
-  one-apic : count (λ r. is-live r && eqb (fields r .apic) (fields row .apic)) (base .sheet) ≡ 1
+  one-apic : count (has-apic (fields row .apic)) (base .sheet) ≡ 1
   unfolding count launch-sheet
   one-apic = rw (row-live, eq-eqb (fields row .apic) (fields row .apic) refl, count-zeros (records - 1) record-size (fields row .apic))
 
-  row-fault : live-fault base 0 ≡ false
-  unfolding live-fault startup needs-page records-without-pool
-  row-fault = rw (vcpu-made, row-flags .1 .1, row-pool, row-spare, one-apic, le-ltb (fields row .vmpl) (fields row .vmpl) (omega arith))
+  vmpl-range : (1 ≤ vmsa-vmpl page) × (vmsa-vmpl page ≤ 3)
+  unfolding between
+  vmpl-range =
+      let both = and-eq-true-iff (leb 1 (vmsa-vmpl page)) (leb (vmsa-vmpl page) 3) .0 vmpl-fit in
+      (leb-true _ _ (both .0), leb-true _ _ (both .1))
 
   first-made : record-at base 0 ≡ row
   unfolding record-at launch-sheet
@@ -245,15 +210,27 @@ module _ (plan : Plan) (l : Lent) (tables : table-sized l ≡ true) (memories : 
   unfolding record-at launch-sheet
   later-made i h = getD-replicate (records - 1) i (zeros record-size) [] (omega arith)
 
-  zeros-bad : (n : ℕ) → bad-record n (zeros record-size) ≡ false
-  unfolding bad-record
-  zeros-bad n = rw (is-live-zeros record-size, fields-zeros record-size)
-
   rows-made : (i : ℕ) → i < records → record-fault base i ≡ false
-  unfolding record-fault
-  rows-made zero h = rw (first-made, row-bad, row-live) row-fault
-  rows-made (suc i) h =
-      rw (later-made i h, zeros-bad (N base), is-live-zeros record-size, every-zeros record-size, ne-eqb (suc i) 0 (omega arith))
+  unfolding startup needs-page records-without-pool
+  rows-made zero h =
+      close-row base 0
+      (rw (same-N, vcpu-made)
+      record {
+        running = omega (arith, row-flags);
+        least = rw row-vmpl (vmpl-range .0);
+        most = rw row-vmpl (vmpl-range .1);
+        vmsa = rw row-vmsa (inside .0);
+        calling = rw row-calling (inside .1);
+        pool = λ e. omega (arith, row-flags);
+        holding = row-flags .1;
+        no-pool = λ e. row-pool;
+        spare = row-spare;
+        features = λ e. absurd (e refl);
+        once = one-apic;
+        rank = omega arith;
+      })
+      (rw first-made row-live)
+  rows-made (suc i) h = close-dead base (suc i) (later-made i h) (λ e. omega arith)
 
   base-sound : Sound base
   base-sound = record { tables = tables-made; memories = memories-made; pages = page-made; rows = rows-made }
@@ -262,18 +239,9 @@ module _ (plan : Plan) (l : Lent) (tables : table-sized l ≡ true) (memories : 
   unfolding made
   made-sound = close-sound _ (write-sound (plan .calling) 0 (0 ∷ 0 ∷ []) base base-sound)
 
--- an answer that refuses is not that it is made
-never : {A : Type 0} (a b : Launched) → a ≡ b → (launched-number a ≡ launched-number b → ⊥) → A
-never a b e n = absurd (n (ap launched-number e))
-
 -- statement 0
 pub launched-sound : Launched-sound
-unfolding launch refuse Launched-sound launched-number
+unfolding Launched-sound
 launched-sound plan m tables memories e =
-    by-test (out-of-range plan (N (m .lent)))
-    (λ t. never OutOfRange Made (rw t at e) (omega arith))
-    (λ t. by-test (areas-meet plan)
-    (λ u. never AreasMeet Made (rw u at (rw t at e)) (omega arith))
-    (λ u. by-test (unfit-vmsa (page-at (m .lent) (plan .vmsa)))
-    (λ v. never UnfitVmsa Made (rw v at (rw u at (rw t at e))) (omega arith))
-    (λ v. rw (t, u, v) (made-sound plan (m .lent) tables memories t u v))))
+    let told = launch-made plan m e in
+    rw (told .after) (made-sound plan (m .lent) tables memories (told .within) (told .apart) (told .fit))

@@ -1,28 +1,27 @@
 -- Remap leaves a sound machine sound.
-use mathlib.Core.Path.{_≡_, refl, sym, _∙_, ap}
-use mathlib.Core.Bool.{true, false, not, _&&_, _||_, and-true}
+use mathlib.Core.Path.{_≡_, refl, sym, _∙_}
+use mathlib.Core.Bool.{true, false, _&&_}
 use mathlib.Core.List.{List, [], _∷_, _++_}
 use Prim.Native.Nat.{ℕ, _<_}
 use native.Mathlib.Omega.{arith}
 use lib.Dec.{eqb}
 use lib.ListN.{length, set}
-use lib.Seq.{sets, length-sets, getD-set-same, getD-set-other}
-use borrow.Author.Tests.{eqb-true, eqb-false, eq-eqb, ne-eqb, not-false}
-use Rattle.rules.specs.Words.{page-size, most-pages, multiple, records, record-size, little, count}
-use Rattle.rules.specs.Answers.{refuse}
-use Rattle.rules.specs.declared.Vcpu.{Vcpu}
-use Rattle.rules.specs.Machine.{Lent, N, page-of, owner, valid, own, table-byte, put, change, owned-by, usable}
-use Rattle.rules.specs.Machine.{fields, is-live, holds, record-at, vcpu, startup, amend}
-use Rattle.rules.specs.Sound.{claim, claims, agrees, record-fault, pages-sized}
+use lib.Seq.{sets, length-sets}
+use borrow.Author.Tests.{eqb-true, eqb-false, eq-eqb, ne-eqb}
+use Rattle.rules.specs.Words.{most-pages, records, record-size, little}
+use Rattle.rules.specs.Machine.{Lent, N, page-of, owner, valid, own, table-byte, put, change, fields, is-live, holds, record-at, vcpu, startup, amend}
+use Rattle.rules.specs.Sound.{claim, claims, agrees, pages-sized}
 use Rattle.rules.specs.Calls.{remapped, remap}
-use Rattle.laws.proofs.Ranges.{by-test, or-false}
+use Rattle.laws.proofs.Ranges.{by-test}
 use Rattle.laws.proofs.Records.{fields-remapped, is-live-remapped, holds-remapped}
+use Rattle.safety.proofs.Effects.{change-N, change-byte}
+use Rattle.safety.proofs.Checks.{past-remap}
 use Rattle.safety.proofs.Sound.Facts.{Page-right, Sound}
+use Rattle.safety.proofs.Sound.Sizes.{few-pages, in-sheet, record-length, pages-kept}
 use Rattle.safety.proofs.Sound.Claims.{says, claim-live, claims-same, claims-alone, nameable, unclaimed-alone}
-use Rattle.safety.proofs.Sound.Rows.{few-pages, in-sheet, record-length, has-apic, close-row, row-right, calling-below, calling-owned, calling-alone}
-use Rattle.safety.proofs.Sound.Rows.{not-vmsa, not-pool, count-kept}
-use Rattle.safety.proofs.Sound.Changed.{sound-written, pages-kept, changed-sound, record-there, size-changed, byte-changed, usable→, owned-by→}
-use Rattle.safety.proofs.Sound.Changed.{owned-valid, own-low}
+use Rattle.safety.proofs.Sound.Rows.{renewed, row-right, calling-below, calling-owned, calling-alone, not-vmsa, not-pool}
+use Rattle.safety.proofs.Sound.OnePage.{write-sound, owned-valid, own-low}
+use Rattle.safety.proofs.Sound.Changed.{renewed-sound}
 
 module _ (m : Lent) (s : Sound m) (caller : ℕ) (h : caller < records) (live : is-live (record-at m caller) ≡ true) (new : ℕ) (inside : new < N m) where
   abbrev old : ℕ
@@ -35,18 +34,7 @@ module _ (m : Lent) (s : Sound m) (caller : ℕ) (h : caller < records) (live : 
   new-sheet = set (m .sheet) caller new-row
 
   -- the new record's fields: a new calling page
-  renamed : fields new-row ≡ record {
-    live = vcpu m caller .live;
-    vmpl = vcpu m caller .vmpl;
-    running = vcpu m caller .running;
-    holding = vcpu m caller .holding;
-    apic = vcpu m caller .apic;
-    vmsa = vcpu m caller .vmsa;
-    calling = new;
-    pool = vcpu m caller .pool;
-    spare = vcpu m caller .spare;
-    features = vcpu m caller .features;
-  }
+  renamed : fields new-row ≡ renewed (vcpu m caller .running) new (vcpu m caller)
   unfolding vcpu most-pages
   renamed = fields-remapped (record-at m caller) new (record-length m (s .tables) caller h) (omega (arith, few-pages m (s .tables)))
 
@@ -122,68 +110,25 @@ module _ (m : Lent) (s : Sound m) (caller : ℕ) (h : caller < records) (live : 
 
   -- ---- the whole machine, whatever its table
 
-  module _ (after : Lent) (sheets : after .sheet ≡ new-sheet) (sizes : N after ≡ N m) where
-    size : length new-row ≡ record-size
-    size = length-sets (record-at m caller) 12 (little 4 new) ∙ record-length m (s .tables) caller h
-
-    same : startup after .vmpl ≡ startup m .vmpl
-    unfolding startup vcpu record-at
-    same =
-        by-test (eqb 0 caller)
-        (λ t.
-        rw (sheets, eqb-true 0 caller t, getD-set-same (m .sheet) caller new-row [] row-inside)
-        (ap (λ (v : Vcpu). v .vmpl) renamed))
-        (λ t. rw (sheets, getD-set-other (m .sheet) caller 0 new-row [] (eqb-false 0 caller t)))
-
-    there : record-at after caller ≡ new-row
-    there = record-there m after s caller new-row h sheets sizes size same
-
-    counted : (a : ℕ) → count (has-apic a) new-sheet ≡ count (has-apic a) (m .sheet)
-    unfolding vcpu record-at
-    counted a =
-        count-kept (has-apic a) (m .sheet) caller new-row row-inside
-        (rw (is-live-remapped (record-at m caller) new) (ap (λ (v : Vcpu). is-live (record-at m caller) && eqb (v .apic) a) renamed))
-
-    row-after : record-fault after caller ≡ false
-    unfolding vcpu
-    row-after =
-        let row = row-right m s caller h live in
-        close-row after caller
-        (rw (sizes, same, there, renamed, sheets)
-        record {
-          running = row .running;
-          least = row .least;
-          most = row .most;
-          vmsa = row .vmsa;
-          calling = inside;
-          pool = row .pool;
-          holding = row .holding;
-          no-pool = row .no-pool;
-          spare = row .spare;
-          features = row .features;
-          once = counted (vcpu m caller .apic) ∙ row .once;
-          rank = row .rank;
-        })
-        (rw there still-live)
-
-    remap-changed : pages-sized after ≡ true → ((p : ℕ) → p < N m → Page-right (startup m .vmpl) (claims new-sheet p) (table-byte after p)) → Sound after
-    remap-changed memories right =
-        changed-sound m after s caller new-row h sheets sizes size same memories right row-after
-        (λ j k ne t. counted (vcpu m j .apic) ∙ row-right m s j k t .once)
+  remap-changed : (after : Lent) → after .sheet ≡ new-sheet → N after ≡ N m → pages-sized after ≡ true
+      → ((p : ℕ) → p < N m → Page-right (startup m .vmpl) (claims new-sheet p) (table-byte after p)) → Sound after
+  remap-changed after sheets sizes =
+      let size : length new-row ≡ record-size = length-sets (record-at m caller) 12 (little 4 new) ∙ record-length m (s .tables) caller h in
+      renewed-sound m after s caller (vcpu m caller .running) new new-row h live renamed size sheets sizes (row-right m s caller h live .running) inside
 
   -- ---- the two cases
 
   pages-again : old ≡ new → (p : ℕ) → p < N m → Page-right (startup m .vmpl) (claims new-sheet p) (table-byte (change (own 1) new m) p)
   pages-again e p b =
-      let was = byte-changed (own 1) new m p b in
+      let was = change-byte (own 1) new m p b in
       by-test (eqb new p) (λ t. rw (was, t, ← eqb-true new p t) (right-again e)) (λ t. rw (was, t) (right-elsewhere p b (rw e t) t))
 
   pages-away : (old ≡ new → ⊥) → owner (table-byte m new) ≡ 0 → valid (table-byte m new) ≡ true → (p : ℕ) → p < N m
       → Page-right (startup m .vmpl) (claims new-sheet p) (table-byte (change (own 1) new (change (own 0) old m)) p)
   pages-away ne owns v p b =
       let mid = change (own 0) old m in
-      let first = byte-changed (own 0) old m p b in
-      let second = byte-changed (own 1) new mid p (rw (size-changed (own 0) old m) b) in
+      let first = change-byte (own 0) old m p b in
+      let second = change-byte (own 1) new mid p (rw (change-N (own 0) old m) b) in
       by-test (eqb new p)
       (λ t.
       let not-old : eqb old p ≡ false = ne-eqb old p (λ e. ne (e ∙ sym (eqb-true new p t))) in
@@ -196,36 +141,26 @@ module _ (m : Lent) (s : Sound m) (caller : ℕ) (h : caller < records) (live : 
   sound-again : old ≡ new → Sound (named m)
   unfolding amend change put N table-byte record-at
   sound-again e =
-      let sizes = size-changed (own 1) new m in
-      remap-changed (named m) refl sizes (pages-kept m (named m) refl sizes (s .memories)) (pages-again e)
+      let sizes = change-N (own 1) new m in
+      remap-changed (named m) refl sizes (pages-kept m (s .memories) (named m) refl sizes) (pages-again e)
 
   sound-away : (old ≡ new → ⊥) → owner (table-byte m new) ≡ 0 → valid (table-byte m new) ≡ true → Sound (named (change (own 0) old m))
   unfolding amend change put N table-byte record-at
   sound-away ne owns v =
       let mid = change (own 0) old m in
-      let sizes = size-changed (own 1) new mid ∙ size-changed (own 0) old m in
-      remap-changed (named mid) refl sizes (pages-kept m (named mid) refl sizes (s .memories)) (pages-away ne owns v)
+      let sizes = change-N (own 1) new mid ∙ change-N (own 0) old m in
+      remap-changed (named mid) refl sizes (pages-kept m (s .memories) (named mid) refl sizes) (pages-away ne owns v)
 
-  sound-remapped : (eqb old new ≡ false → owner (table-byte m new) ≡ 0) → valid (table-byte m new) ≡ true → Sound (remapped caller old new m)
+  sound-remapped : ((new ≡ old → ⊥) → owner (table-byte m new) ≡ 0) → valid (table-byte m new) ≡ true → Sound (remapped caller old new m)
   unfolding remapped
   sound-remapped owns v =
       by-test (eqb old new)
-      (λ t. rw t (sound-written new 0 (0 ∷ []) _ (sound-written old 0 (0 ∷ []) _ (sound-again (eqb-true old new t)))))
-      (λ t. rw t (sound-written new 0 (0 ∷ []) _ (sound-written old 0 (0 ∷ []) _ (sound-away (eqb-false old new t) (owns t) v))))
+      (λ t. rw t (write-sound new 0 (0 ∷ []) _ (write-sound old 0 (0 ∷ []) _ (sound-again (eqb-true old new t)))))
+      (λ t.
+      let ne = eqb-false old new t in
+      rw t (write-sound new 0 (0 ∷ []) _ (write-sound old 0 (0 ∷ []) _ (sound-away ne (owns (λ e. ne (sym e))) v))))
 
 -- Remap leaves a sound machine sound
 pub remap-sound : (caller rcx : ℕ) (m : Lent) → Sound m → caller < records → is-live (record-at m caller) ≡ true → Sound (remap caller rcx m .after)
-unfolding remap refuse
 remap-sound caller rcx m s h live =
-    let new = page-of rcx in
-    let old = vcpu m caller .calling in
-    let strange = not (owned-by 0 m new) && not (eqb new old) in
-    by-test (not (multiple page-size rcx)) (λ t. rw t s)
-    (λ t. by-test (not (usable (vcpu m caller .vmpl) m new) || strange) (λ u. rw (t, u) s)
-    (λ u.
-    let both = or-false (not (usable (vcpu m caller .vmpl) m new)) strange u in
-    let page = usable→ _ m new (not-false _ (both .0)) in
-    let owns : eqb old new ≡ false → owner (table-byte m new) ≡ 0
-    = λ f. owned-by→ 0 m new
-    (not-false _ (rw (ne-eqb new old (λ e. eqb-false old new f (sym e)), and-true) at (both .1))) in
-    rw (t, u) (sound-remapped m s caller h live new (page .0) owns (page .1))))
+    past-remap caller rcx m Sound s (λ fit. sound-remapped m s caller h live (page-of rcx) (fit .inside) (fit .owned) (fit .validated))

@@ -1,57 +1,27 @@
--- What a sound machine says of its records: what a live one holds, the owners of the pages that it names, and that no two live records name
--- one page; that a record which is not live is zeros; and back again, what makes a record faultless.
+-- What a sound machine says of its records: what a live one holds, the owners of the pages that it names, and that it alone claims them;
+-- that a record which is not live is zeros; and back again, what makes a record faultless.
 use mathlib.Core.Path.{_≡_, refl, sym, _∙_, ap}
-use mathlib.Core.Bool.{Bool, true, false, cond, not, _&&_, _||_, true≢false, and-eq-true-iff}
+use mathlib.Core.Bool.{Bool, true, false, cond, not, _&&_, _||_}
 use mathlib.Core.List.{List, []}
-use Prim.Native.Nat.{ℕ, zero, suc, _<_, _≤_}
+use Prim.Native.Nat.{ℕ, _<_, _≤_}
 use native.Mathlib.Omega.{arith}
 use lib.Dec.{leb, ltb, eqb}
 use lib.ListN.{length, getD, set}
 use lib.Seq.{ext-getD, getD-set-other, lt-length-set}
-use borrow.Author.Tests.{eqb-true, eqb-false, ltb-true, ltb-false, leb-true, eq-eqb, ne-eqb, le-leb, lt-leb, le-ltb, not-false, not-true}
-use Rattle.rules.specs.Words.{between, records, record-size, least-pages, most-pages, every, exists, count}
+use borrow.Author.Tests.{eqb-true, eqb-false, ltb-true, ltb-false, eq-eqb, ne-eqb, le-leb, lt-leb, le-ltb, not-false, not-true}
+use Rattle.rules.specs.Words.{between, records, record-size, every, exists, count}
 use Rattle.rules.specs.declared.Vcpu.{Vcpu}
 use Rattle.rules.specs.Machine.{Lent, N, owner, table-byte, fields, is-live, holds, needs-page, record-at, vcpu, startup, zeros}
-use Rattle.rules.specs.Sound.{claim, claims, bad-names, bad-record, live-fault, record-fault, table-sized}
-use Rattle.laws.proofs.Ranges.{by-test, every→, →exists, absent→, or-false}
+use Rattle.rules.specs.Sound.{claim, claims, bad-names, bad-record, live-fault, record-fault}
+use Rattle.laws.proofs.Ranges.{by-test, every→, →every, →exists, absent→, or-false}
 use Rattle.laws.proofs.Counts.{one, one-le, count-set, exists-count, count-none}
 use Rattle.laws.proofs.Numbers.{length-zeros, zeros-at}
 use Rattle.laws.proofs.Records.{fields-zeros, is-live-zeros}
 use Rattle.laws.proofs.Tested.{Names, names}
+use Rattle.safety.proofs.Small.{and-false→, implied}
 use Rattle.safety.proofs.Sound.Facts.{Sound}
-use Rattle.safety.proofs.Sound.Claims.{claim-vmsa, claim-calling, claim-pool, claimed-owner, claimed-alone, claimed-once}
-
--- ---- sizes
-
-module _ (m : Lent) (e : table-sized m ≡ true) where
-  -- the three tests
-  pub table-sizes : (between least-pages most-pages (N m) ≡ true) × (eqb (length (m .sheet)) records ≡ true)
-      × (every (λ r. eqb (length r) record-size) (m .sheet) ≡ true)
-  unfolding table-sized
-  table-sizes =
-      let pages = between least-pages most-pages (N m) in
-      let rows = eqb (length (m .sheet)) records in
-      let outer = and-eq-true-iff (pages && rows) (every (λ r. eqb (length r) record-size) (m .sheet)) .0 e in
-      let inner = and-eq-true-iff pages rows .0 (outer .0) in
-      (inner .0, inner .1, outer .1)
-
-  -- a page's number fits four bytes
-  pub few-pages : N m ≤ most-pages
-  unfolding between
-  few-pages = leb-true _ _ (and-eq-true-iff (leb least-pages (N m)) (leb (N m) most-pages) .0 (table-sizes .0) .1)
-
-  -- sixteen records
-  pub sheet-length : length (m .sheet) ≡ records
-  sheet-length = eqb-true _ _ (table-sizes .1)
-
-  -- record i is one of them
-  pub in-sheet : {i : ℕ} → i < records → i < length (m .sheet)
-  in-sheet h = rw sheet-length h
-
-  -- of 32 bytes each
-  pub record-length : (i : ℕ) → i < records → length (record-at m i) ≡ record-size
-  unfolding record-at
-  record-length i h = eqb-true _ _ (every→ (λ r. eqb (length r) record-size) (m .sheet) i [] (table-sizes .2) (in-sheet h))
+use Rattle.safety.proofs.Sound.Sizes.{in-sheet, record-length}
+use Rattle.safety.proofs.Sound.Claims.{claim-vmsa, claim-calling, claim-pool, claimed-owner, claimed-alone}
 
 -- ---- a live record
 
@@ -79,19 +49,43 @@ pub record Row-right (n c i : ℕ) (sheet : List (List ℕ)) (v : Vcpu) : Type 0
   pub once : count (has-apic (v .apic)) sheet ≡ 1
   pub rank : c ≤ v .vmpl
 
--- a test that passes only together with another that fails
-and-false→ : (a b : Bool) → (a && b) ≡ false → a ≡ true → b ≡ false
-and-false→ true b e t = e
-and-false→ false b e t = absurd (true≢false (sym t))
-
-implied : (a b : Bool) → (a ≡ true → b ≡ false) → (a && b) ≡ false
-implied true b f = f refl
-implied false b f = refl
-
 all-zeros : (n : ℕ) → every (eqb 0) (zeros n) ≡ true
-unfolding every zeros
-all-zeros zero = refl
-all-zeros (suc n) = all-zeros n
+all-zeros n = →every (eqb 0) (zeros n) 0 (λ i h. rw (zeros-at n i))
+
+-- the fields with another running byte and calling page
+abbrev pub renewed : ℕ → ℕ → Vcpu → Vcpu
+renewed running calling v =
+    record {
+      live = v .live;
+      vmpl = v .vmpl;
+      running = running;
+      holding = v .holding;
+      apic = v .apic;
+      vmsa = v .vmsa;
+      calling = calling;
+      pool = v .pool;
+      spare = v .spare;
+      features = v .features;
+    }
+
+-- they are right still, in a sheet that counts their APIC ID once
+pub row-renewed : {n c i running calling : ℕ} {sheet sheet′ : List (List ℕ)} {v : Vcpu} → Row-right n c i sheet v → running ≤ 1 → calling < n
+    → count (has-apic (v .apic)) sheet′ ≡ 1 → Row-right n c i sheet′ (renewed running calling v)
+row-renewed row l b once =
+    record {
+      running = l;
+      least = row .least;
+      most = row .most;
+      vmsa = row .vmsa;
+      calling = b;
+      pool = row .pool;
+      holding = row .holding;
+      no-pool = row .no-pool;
+      spare = row .spare;
+      features = row .features;
+      once = once;
+      rank = row .rank;
+    }
 
 live-is-one : (r : List ℕ) → is-live r ≡ true → fields r .live ≡ 1
 unfolding is-live
@@ -103,14 +97,18 @@ module _ (m : Lent) (i : ℕ) where
   unfolding record-fault
   both e = or-false (bad-record (N m) (record-at m i)) _ e
 
+  -- a record without fault has nothing that outcome 3 names
+  pub not-bad : record-fault m i ≡ false → bad-record (N m) (record-at m i) ≡ false
+  not-bad e = both e .0
+
   -- what a record without fault holds if it is live
   pub open-row : record-fault m i ≡ false → is-live (record-at m i) ≡ true → Row-right (N m) (startup m .vmpl) i (m .sheet) (vcpu m i)
   unfolding vcpu bad-record live-fault holds
   open-row e live =
       let r = record-at m i in
       let v = fields r in
-      let seen : Names (N m) r = names (N m) r (both e .0) live in
-      let first = or-false (ltb 1 (v .live) || ltb 1 (v .running) || ltb 1 (v .holding)) (is-live r && bad-names (N m) r) (both e .0) .0 in
+      let seen : Names (N m) r = names (N m) r (not-bad e) live in
+      let first = or-false (ltb 1 (v .live) || ltb 1 (v .running) || ltb 1 (v .holding)) (is-live r && bad-names (N m) r) (not-bad e) .0 in
       let second = or-false (ltb 1 (v .live)) (ltb 1 (v .running)) (or-false (ltb 1 (v .live) || ltb 1 (v .running)) (ltb 1 (v .holding)) first .0) in
       let a = not (eqb (v .holding) (cond (needs-page i) 1 0)) in
       let b = eqb (v .holding) 0 && not (eqb (v .pool) 0) in
@@ -235,19 +233,14 @@ module _ (m : Lent) (s : Sound m) where
     -- a page that it claims
     module _ (p : ℕ) (b : p < N m) (c : ℕ) (e : exists (eqb c) (claim (record-at m i) p) ≡ true) where
       -- has the owner claimed
-      pub owned : owner (table-byte m p) ≡ c
+      owned : owner (table-byte m p) ≡ c
       unfolding record-at
       owned = claimed-owner (m .sheet) i p (owner (table-byte m p)) inside (s .pages p b .agreed) c e
 
-      -- is claimed by it alone
-      pub owned-alone : claims (m .sheet) p ≡ claim (record-at m i) p
+      -- and is claimed by it alone
+      owned-alone : claims (m .sheet) p ≡ claim (record-at m i) p
       unfolding record-at
       owned-alone = claimed-alone (m .sheet) i p (owner (table-byte m p)) inside (s .pages p b .agreed) c e
-
-      -- and by no other record
-      pub owned-once : (j d : ℕ) → j < records → exists (eqb d) (claim (record-at m j) p) ≡ true → j ≡ i
-      unfolding record-at
-      owned-once j d k f = claimed-once (m .sheet) i p (owner (table-byte m p)) inside (s .pages p b .agreed) c d j e f (in-sheet m (s .tables) k)
 
     claims-vmsa : exists (eqb 5) (claim (record-at m i) (vcpu m i .vmsa)) ≡ true
     unfolding vcpu
@@ -289,16 +282,12 @@ module _ (m : Lent) (s : Sound m) where
     pub not-vmsa : (p : ℕ) → (owner (table-byte m p) ≡ 5 → ⊥) → eqb (vcpu m i .vmsa) p ≡ false
     not-vmsa p f = ne-eqb _ _ (λ e. f (ap (λ q. owner (table-byte m q)) (sym e) ∙ vmsa-owned))
 
-    -- nor its calling page
-    pub not-calling : (p : ℕ) → (owner (table-byte m p) ≡ 1 → ⊥) → eqb (vcpu m i .calling) p ≡ false
-    not-calling p f = ne-eqb _ _ (λ e. f (ap (λ q. owner (table-byte m q)) (sym e) ∙ calling-owned))
-
     -- nor its pool page
     pub not-pool : (p : ℕ) → (owner (table-byte m p) ≡ 4 → ⊥) → (holds (record-at m i) && eqb (vcpu m i .pool) p) ≡ false
     not-pool p f =
         implied (holds (record-at m i)) (eqb (vcpu m i .pool) p) (λ t. ne-eqb _ _ (λ e. f (ap (λ q. owner (table-byte m q)) (sym e) ∙ pool-owned t)))
 
-    -- so the VMSA page is not the calling page
+    -- its VMSA page is not the calling page
     pub vmsa-not-calling : vcpu m i .vmsa ≡ vcpu m i .calling → ⊥
     vmsa-not-calling e = omega (arith, ap (λ q. owner (table-byte m q)) e, vmsa-owned, calling-owned)
 
@@ -316,11 +305,6 @@ module _ (m : Lent) (s : Sound m) where
   startup-range =
       let row = row-right 0 (omega arith) startup-lives in
       rw (le-leb _ _ (row .least), le-leb _ _ (row .most))
-
-  -- two live records name no common page: what one claims, the other does not
-  pub apart : (i j c d p : ℕ) → i < records → j < records → p < N m → is-live (record-at m i) ≡ true
-      → exists (eqb c) (claim (record-at m i) p) ≡ true → exists (eqb d) (claim (record-at m j) p) ≡ true → i ≡ j
-  apart i j c d p h k b live e f = sym (owned-once i h live p b c e j d k f)
 
 -- ---- counts, after one record changed
 

@@ -1,33 +1,23 @@
 -- From the single calls to any run: a call, a step and a run of steps leave a sound machine sound.
-use mathlib.Core.Path.{_≡_, refl, sym, subst}
-use mathlib.Core.Bool.{Bool, true, false, cond, not, _&&_, _||_}
 use mathlib.Core.List.{List, [], _∷_}
-use Prim.Native.Nat.{ℕ, _<_}
-use lib.Dec.{leb, eqb}
-use lib.ListN.{getD}
-use borrow.Author.Tests.{leb-false, not-false}
-use Rattle.rules.specs.Words.{records, entries-a-call, exists}
+use Prim.Native.Nat.{ℕ}
+use Rattle.rules.specs.Words.{entries-a-call}
 use Rattle.rules.specs.declared.Registers.{Registers}
 use Rattle.rules.specs.declared.Code.{Code}
 use Rattle.rules.specs.declared.ListCall.{ListCall}
 use Rattle.rules.specs.declared.ListCall.the-variants.{Pvalidate, Deposit}
 use Rattle.rules.specs.Answers.{Answered, refuse}
-use Rattle.rules.specs.Machine.{Lent, Machine, with-lent, N, write, is-live, record-at, vcpu, startup}
+use Rattle.rules.specs.Machine.{Lent, Machine, with-lent, write, is-live, record-at}
 use Rattle.rules.specs.Steps.{store, mark}
-use Rattle.rules.specs.Sound.{bad-record, sound}
 use Rattle.rules.specs.Lists.{list-call}
-use Rattle.rules.specs.Calls.{any-free, remap, create, delete, withdraw}
-use Rattle.rules.specs.Call.{Posed, bad-sheet, bad-machine, no-call, pending, protocol, call-number, on-lent, on-rcx, dispatch, handle, clear-pending, set-flag, finish, call}
+use Rattle.rules.specs.Calls.{remap, create, delete, withdraw}
+use Rattle.rules.specs.Call.{Posed, bad-machine, no-call, on-lent, on-rcx, handle, clear-pending, set-flag, finish, call}
 use Rattle.rules.specs.Runs.{Step, calls, stores, marks, called, step, run-steps}
-use Rattle.laws.proofs.Ranges.{by-test, or-false}
+use Rattle.laws.proofs.Ranges.{by-test}
 use Rattle.safety.specs.Statements.{Stays-sound}
 use Rattle.safety.proofs.Branches.{past, on-handle}
+use Rattle.safety.proofs.Checks.{Caller, caller-of}
 use Rattle.safety.proofs.Sound.Facts.{Sound, open-sound, close-sound}
-
--- a caller that passes outcome 3: a record of the sheet, and live
-pub record Caller (caller : ℕ) (m : Lent) : Type 0 where
-  pub below : caller < records
-  pub live : is-live (record-at m caller) ≡ true
 
 -- each call that changes the lent buffers, and each of the other steps, keeps a machine sound
 pub record Each-sound : Type 0 where
@@ -41,34 +31,23 @@ pub record Each-sound : Type 0 where
 
 module _ (each : Each-sound) where
   module _ (caller : ℕ) (g : Registers) (m : Machine) (s : Sound (m .lent)) where
-    -- outcome 3 told that the caller is live
-    pub caller-of : bad-machine caller (m .lent) ≡ false → Caller caller (m .lent)
-    unfolding bad-machine bad-sheet record-at
-    caller-of e =
-        let sheet = m .lent .sheet in
-        let above = leb records caller in
-        let dead = not (is-live (getD sheet caller [])) in
-        let dead-0 = not (is-live (getD sheet 0 [])) in
-        let outer = or-false (above || dead || dead-0) (exists (bad-record (N (m .lent))) sheet) e in
-        let inner = or-false above dead (or-false (above || dead) dead-0 (outer .0) .0) in
-        record { below = leb-false records caller (inner .0); live = not-false (is-live (getD sheet caller [])) (inner .1) }
-
+    -- a call that is handled
     pub handle-sound : Caller caller (m .lent) → Sound (handle caller (record { registers = g; machine = m }) .after .machine .lent)
     unfolding on-lent on-rcx with-lent
     handle-sound c =
         on-handle caller (record { registers = g; machine = m }) (λ a. Sound (a .after .machine .lent))
         (record {
           bad-pending = s;
-          unknown-protocol = s;
-          remaps = each .remaps caller (g .rcx) (m .lent) s c;
+          unknown-protocol = λ e. s;
+          remaps = λ e. each .remaps caller (g .rcx) (m .lent) s c;
           validates = λ e. each .lists Pvalidate caller (g .rcx) (m .lent) s c;
-          creates = each .creates caller (g .rcx) (g .rdx) (g .r8) (m .lent) s c;
+          creates = λ e. each .creates caller (g .rcx) (g .rdx) (g .r8) (m .lent) s c;
           deletes = λ e. each .deletes caller (g .rcx) (m .lent) s c;
           deposits = λ e. each .lists Deposit caller (g .rcx) (m .lent) s c;
           withdraws = λ e. each .withdraws caller (g .rcx) (m .lent) s c;
-          queries = s;
-          configures = s;
-          unknown-call = s;
+          queries = λ e. s;
+          configures = λ e. s;
+          unknown-call = λ e. s;
         })
 
   -- the last writes
@@ -79,15 +58,15 @@ module _ (each : Each-sound) where
       let m = a .after .machine .lent in
       by-test (is-live (record-at m caller)) (λ t. rw t (each .writes _ _ _ _ (each .writes _ _ _ m s))) (λ t. rw t (each .writes _ _ _ m s))
 
-  pub called-sound : (caller : ℕ) (g : Registers) (m : Machine) → Sound (m .lent) → Sound (called caller g m .after .machine .lent)
+  called-sound : (caller : ℕ) (g : Registers) (m : Machine) → Sound (m .lent) → Sound (called caller g m .after .machine .lent)
   unfolding called call refuse
   called-sound caller g m s =
       by-test (bad-machine caller (m .lent)) (λ t. rw t s)
       (λ good.
       by-test (no-call caller g (m .lent)) (λ t. rw (good, t) s)
-      (λ t. rw (good, t) (finish-sound caller g _ (handle-sound caller g m s (caller-of caller g m s good)))))
+      (λ t. rw (good, t) (finish-sound caller g _ (handle-sound caller g m s (caller-of caller (m .lent) good)))))
 
-  pub step-sound : (st : Step) (m : Machine) → Sound (m .lent) → Sound (step st m .lent)
+  step-sound : (st : Step) (m : Machine) → Sound (m .lent) → Sound (step st m .lent)
   unfolding step store with-lent
   step-sound (calls caller g) m s = called-sound caller g m s
   step-sound (stores c p offset bytes) m s = past Sound (m .lent) _ _ _ s (λ t. each .writes p offset bytes (m .lent) s)
@@ -98,6 +77,7 @@ module _ (each : Each-sound) where
   run-sound [] m s = s
   run-sound (st ∷ ss) m s = run-sound ss (step st m) (step-sound st m s)
 
+  -- statement 1
   pub stays-sound-by : Stays-sound
   unfolding Stays-sound
   stays-sound-by ss m e = close-sound _ (run-sound ss m (open-sound _ e))

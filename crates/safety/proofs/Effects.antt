@@ -1,0 +1,230 @@
+-- What the effects of the calls leave of any machine, sound or not: the table bytes, the number of pages, the sheet, memory.
+use mathlib.Core.Path.{_≡_, refl, sym, _∙_, ap}
+use mathlib.Core.Bool.{Bool, true, false, cond, _&&_, and-eq-true-iff}
+use mathlib.Core.List.{List, []}
+use Prim.Native.Nat.{ℕ, _<_, _≤_}
+use native.Mathlib.Omega.{arith}
+use lib.Dec.{eqb, ltb}
+use lib.ListN.{length, getD, set, length-set, List·getD-eq-default}
+use lib.Seq.{sets, set-out, getD-set-same, getD-set-other}
+use borrow.Author.Tests.{eqb-true, eqb-false, ne-eqb, ltb-true, ltb-false}
+use Rattle.rules.specs.declared.Wish.{Wish}
+use Rattle.rules.specs.declared.Wish.the-variants.{Invalid, Valid, Pool}
+use Rattle.rules.specs.Words.{record-size, bits, little, range}
+use Rattle.rules.specs.Machine.{Lent, N, page-at, with-memory, written, write, zeros, fill, owner, grant, revoke, own, table-byte, put, change}
+use Rattle.rules.specs.Machine.{holds, needs-page, record-at, vcpu, startup, amend}
+use Rattle.rules.specs.Lists.{wished, cleared, carry-out, carry-out-all}
+use Rattle.rules.specs.Calls.{remapped, Asked, free-page, new-record, created, clear-svme, deleted, give-back, withdrawn-pages, withdrawn}
+use Rattle.laws.proofs.Ranges.{by-test, each-same}
+use Rattle.laws.proofs.Counts.{sheet-each}
+use Rattle.safety.proofs.Small.{implied}
+use Rattle.safety.proofs.Branches.{on-test}
+
+-- ---- a table byte
+
+-- a page that has an owner is one of the table's: past its end a byte reads as 0
+pub owned-below : (m : Lent) (p o : ℕ) → owner (table-byte m p) ≡ o → 1 ≤ o → p < N m
+unfolding N table-byte owner bits
+owned-below m p o e h =
+    by-test (ltb p (length (m .table))) (ltb-true p (length (m .table)))
+    (λ t. absurd (omega (arith, rw (List·getD-eq-default (m .table) 0 (ltb-false p (length (m .table)) t)) at e)))
+
+module _ (m : Lent) (p b : ℕ) where
+  -- the byte that was put
+  pub put-same : p < N m → table-byte (put p b m) p ≡ b
+  unfolding put table-byte N
+  put-same h = getD-set-same (m .table) p b 0 h
+
+  -- each other is as it was
+  pub put-other : (q : ℕ) → (q ≡ p → ⊥) → table-byte (put p b m) q ≡ table-byte m q
+  unfolding put table-byte
+  put-other q h = getD-set-other (m .table) p q b 0 h
+
+  -- as many pages as before
+  pub put-N : N (put p b m) ≡ N m
+  unfolding put N
+  put-N = length-set (m .table) p b
+
+module _ (f : ℕ → ℕ) (q : ℕ) (m : Lent) where
+  -- the byte that was changed
+  pub change-same : q < N m → table-byte (change f q m) q ≡ f (table-byte m q)
+  unfolding change
+  change-same h = put-same m q (f (table-byte m q)) h
+
+  -- each other is as it was
+  pub change-other : (p : ℕ) → (p ≡ q → ⊥) → table-byte (change f q m) p ≡ table-byte m p
+  unfolding change
+  change-other p h = put-other m q (f (table-byte m q)) p h
+
+  -- as many pages as before
+  pub change-N : N (change f q m) ≡ N m
+  unfolding change
+  change-N = put-N m q (f (table-byte m q))
+
+  -- any byte below N after the change
+  pub change-byte : (p : ℕ) → p < N m → table-byte (change f q m) p ≡ cond (eqb q p) (f (table-byte m p)) (table-byte m p)
+  change-byte p h =
+      by-test (eqb q p)
+      (λ t. let e : q ≡ p = eqb-true q p t in rw (t, ← e) (change-same (rw e h)))
+      (λ t. rw t (change-other p (λ e. eqb-false q p t (sym e))))
+
+-- ---- three table bytes: VMSA a, calling page b and, if t, pool page c, as Create and Delete change them
+
+module _ (f g k : ℕ → ℕ) (a b c : ℕ) (t : Bool) (m : Lent) where
+  abbrev two-changed : Lent
+  two-changed = change g b (change f a m)
+
+  -- the machine after it
+  abbrev pub three-changed : Lent
+  three-changed = cond t (change k c two-changed) two-changed
+
+  two-N : N two-changed ≡ N m
+  two-N = change-N g b (change f a m) ∙ change-N f a m
+
+  -- as many pages as before
+  pub three-N : N three-changed ≡ N m
+  three-N = on-test (λ now. N now ≡ N m) t _ _ (λ e. change-N k c two-changed ∙ two-N) (λ e. two-N)
+
+  -- what holds of each new byte, and of each old one elsewhere, holds of all
+  pub three-bytes : (P : ℕ → ℕ → Type 0) → (a ≡ b → ⊥) → (t ≡ true → (a ≡ c → ⊥) × (b ≡ c → ⊥))
+      → P a (f (table-byte m a)) → P b (g (table-byte m b)) → (t ≡ true → P c (k (table-byte m c)))
+      → ((p : ℕ) → p < N m → eqb a p ≡ false → eqb b p ≡ false → (t && eqb c p) ≡ false → P p (table-byte m p))
+      → (p : ℕ) → p < N m → P p (table-byte three-changed p)
+  three-bytes P a-b a-b-c at-a at-b at-c elsewhere p h =
+      let byte-1 = change-byte f a m p h in
+      let byte-2 = change-byte g b (change f a m) p (rw (change-N f a m) h) in
+      let byte-3 : table-byte three-changed p ≡ cond (t && eqb c p) (k (table-byte two-changed p)) (table-byte two-changed p)
+      = on-test (λ now. table-byte now p ≡ cond (t && eqb c p) (k (table-byte two-changed p)) (table-byte two-changed p)) t _ _
+      (λ e. rw e (change-byte k c two-changed p (rw two-N h))) (λ e. rw e) in
+      by-test (eqb a p)
+      (λ u.
+      let here = eqb-true a p u in
+      let not-b : eqb b p ≡ false = ne-eqb b p (λ e. a-b (here ∙ sym e)) in
+      let not-c : (t && eqb c p) ≡ false = implied t (eqb c p) (λ e. ne-eqb c p (λ q. a-b-c e .0 (here ∙ sym q))) in
+      rw (byte-3, byte-2, byte-1, u, not-b, not-c, ← here) at-a)
+      (λ u. by-test (eqb b p)
+      (λ v.
+      let here = eqb-true b p v in
+      let not-c : (t && eqb c p) ≡ false = implied t (eqb c p) (λ e. ne-eqb c p (λ q. a-b-c e .1 (here ∙ sym q))) in
+      rw (byte-3, byte-2, byte-1, u, v, not-c, ← here) at-b)
+      (λ v. by-test (t && eqb c p)
+      (λ w.
+      let both = and-eq-true-iff t (eqb c p) .0 w in
+      rw (byte-3, byte-2, byte-1, w, u, v, ← eqb-true c p (both .1)) (at-c (both .0)))
+      (λ w. rw (byte-3, byte-2, byte-1, w, u, v) (elsewhere p h u v w))))
+
+-- ---- a page written
+
+module _ (p offset : ℕ) (bytes : List ℕ) (m : Lent) where
+  -- the page itself
+  pub page-written : p < length (m .memory) → page-at (write p offset bytes m) p ≡ sets (page-at m p) offset bytes
+  unfolding page-at write with-memory written
+  page-written h = getD-set-same (m .memory) p (sets (getD (m .memory) p []) offset bytes) [] h
+
+  -- each other page
+  pub page-not-written : (q : ℕ) → (q ≡ p → ⊥) → page-at (write p offset bytes m) q ≡ page-at m q
+  unfolding page-at write with-memory written
+  page-not-written q h = getD-set-other (m .memory) p q (sets (getD (m .memory) p []) offset bytes) [] h
+
+  -- any, if the page is past the end of memory
+  pub page-out : (q : ℕ) → length (m .memory) ≤ p → page-at (write p offset bytes m) q ≡ page-at m q
+  unfolding page-at write with-memory written
+  page-out q h = ap (λ pages. getD pages q []) (set-out (m .memory) p (sets (getD (m .memory) p []) offset bytes) h)
+
+-- ---- the sheet
+
+-- the startup's record goes by the sheet
+pub same-startup : (m m′ : Lent) → m′ .sheet ≡ m .sheet → startup m′ ≡ startup m
+unfolding startup vcpu record-at
+same-startup m m′ e = rw e
+
+-- ---- a page of an entry
+
+-- its table byte is put, and no other
+pub carry-out-table : (wish : Wish) (vmpl p : ℕ) (m : Lent) → carry-out wish vmpl p m .table ≡ put p (wished wish vmpl (table-byte m p)) m .table
+unfolding carry-out cleared put fill with-memory
+carry-out-table Invalid vmpl p m = refl
+carry-out-table Valid vmpl p m = refl
+carry-out-table Pool vmpl p m = refl
+
+-- each other is as it was
+pub carry-out-other : (wish : Wish) (vmpl p : ℕ) (m : Lent) (q : ℕ) → (q ≡ p → ⊥) → table-byte (carry-out wish vmpl p m) q ≡ table-byte m q
+unfolding table-byte
+carry-out-other wish vmpl p m q h =
+    ap (λ t. getD t q 0) (carry-out-table wish vmpl p m) ∙ put-other m p (wished wish vmpl (table-byte m p)) q h
+
+-- so is the sheet
+pub carry-out-sheet : (wish : Wish) (vmpl p : ℕ) (m : Lent) → carry-out wish vmpl p m .sheet ≡ m .sheet
+unfolding carry-out cleared put fill with-memory
+carry-out-sheet Invalid vmpl p m = refl
+carry-out-sheet Valid vmpl p m = refl
+carry-out-sheet Pool vmpl p m = refl
+
+-- after all pages of the entry too
+pub entry-sheet : (wish : Wish) (vmpl first n : ℕ) (m : Lent) → carry-out-all wish vmpl first n m .sheet ≡ m .sheet
+unfolding carry-out-all
+entry-sheet wish vmpl first n m = each-same (λ m. m .sheet) (carry-out wish vmpl) (carry-out-sheet wish vmpl) (range first n) m
+
+-- ---- a page given back
+
+module _ (vmpl p : ℕ) (m : Lent) where
+  -- each other table byte is as it was
+  pub give-back-other : (q : ℕ) → (q ≡ p → ⊥) → table-byte (give-back vmpl p m) q ≡ table-byte m q
+  unfolding give-back
+  give-back-other q h = change-other (λ b. grant vmpl (own 0 b)) p m q h
+
+  -- so is the sheet
+  pub give-back-sheet : give-back vmpl p m .sheet ≡ m .sheet
+  unfolding give-back change put
+  give-back-sheet = refl
+
+  -- and the number of pages
+  pub give-back-N : N (give-back vmpl p m) ≡ N m
+  unfolding give-back
+  give-back-N = change-N (λ b. grant vmpl (own 0 b)) p m
+
+-- ---- the calls
+
+-- Remap: the sheet
+pub remapped-sheet : (caller old new : ℕ) (m : Lent)
+    → remapped caller old new m .sheet ≡ set (m .sheet) caller (sets (record-at m caller) 12 (little 4 new))
+unfolding remapped change put amend write with-memory record-at
+remapped-sheet caller old new m = by-test (eqb old new) (λ t. rw t) (λ t. rw t)
+
+-- Create: the sheet
+pub created-sheet : (a : Asked) (i : ℕ) (m : Lent) → created a i m .sheet ≡ set (m .sheet) i (new-record a i m)
+unfolding created change put amend
+created-sheet a i m = by-test (needs-page i) (λ t. rw t) (λ t. rw t)
+
+-- the table
+pub created-table : (a : Asked) (i : ℕ) (m : Lent)
+    → created a i m .table ≡ three-changed (λ b. own 5 (revoke b)) (own 1) (own 4) (a .vmsa) (a .calling) (free-page m) (needs-page i) m .table
+unfolding created change put amend table-byte
+created-table a i m = by-test (needs-page i) (λ t. rw t) (λ t. rw t)
+
+-- memory
+pub created-memory : (a : Asked) (i : ℕ) (m : Lent) → created a i m .memory ≡ m .memory
+unfolding created change put amend
+created-memory a i m = by-test (needs-page i) (λ t. rw t) (λ t. rw t)
+
+-- Delete: the sheet
+pub deleted-sheet : (vmpl i : ℕ) (m : Lent) → deleted vmpl i m .sheet ≡ set (m .sheet) i (zeros record-size)
+unfolding deleted clear-svme change put amend write with-memory
+deleted-sheet vmpl i m = by-test (holds (record-at m i)) (λ t. rw t) (λ t. rw t)
+
+-- the table
+pub deleted-table : (vmpl i : ℕ) (m : Lent)
+    → deleted vmpl i m .table
+    ≡ three-changed (λ b. grant vmpl (own 0 b)) (own 0) (own 3) (vcpu m i .vmsa) (vcpu m i .calling) (vcpu m i .pool) (holds (record-at m i)) m .table
+unfolding deleted clear-svme write with-memory change put amend table-byte
+deleted-table vmpl i m = by-test (holds (record-at m i)) (λ t. rw t) (λ t. rw t)
+
+-- memory
+pub deleted-memory : (vmpl i : ℕ) (m : Lent) → deleted vmpl i m .memory ≡ clear-svme (vcpu m i .vmsa) m .memory
+unfolding deleted change put amend
+deleted-memory vmpl i m = by-test (holds (record-at m i)) (λ t. rw t) (λ t. rw t)
+
+-- Withdraw: the sheet
+pub withdrawn-sheet : (vmpl rcx : ℕ) (m : Lent) → withdrawn vmpl rcx m .sheet ≡ m .sheet
+unfolding withdrawn write with-memory give-back
+withdrawn-sheet vmpl rcx m = sheet-each _ (withdrawn-pages rcx m) m

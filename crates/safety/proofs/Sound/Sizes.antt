@@ -1,0 +1,90 @@
+-- What the right sizes of a machine say of its table, its sheet and its memory; and what keeps them right.
+use mathlib.Core.Path.{_≡_, _∙_}
+use mathlib.Core.Bool.{true, _&&_, and-eq-true-iff}
+use mathlib.Core.List.{List, []}
+use Prim.Native.Nat.{ℕ, _<_, _≤_}
+use lib.Dec.{leb, eqb}
+use lib.ListN.{length, getD, set, length-set}
+use lib.Seq.{sets, length-sets}
+use borrow.Author.Tests.{eqb-true, leb-true, eq-eqb}
+use Rattle.rules.specs.Words.{page-size, least-pages, most-pages, records, record-size, between, every}
+use Rattle.rules.specs.Machine.{Lent, N, page-at, with-memory, written, write, zeros, fill, record-at}
+use Rattle.rules.specs.Sound.{table-sized, pages-sized}
+use Rattle.laws.proofs.Numbers.{length-zeros}
+use Rattle.laws.proofs.Ranges.{every→}
+use Rattle.safety.proofs.Small.{every-set}
+
+-- ---- table and sheet
+
+module _ (m : Lent) (e : table-sized m ≡ true) where
+  -- the three tests
+  pub table-sizes : (between least-pages most-pages (N m) ≡ true) × (eqb (length (m .sheet)) records ≡ true)
+      × (every (λ r. eqb (length r) record-size) (m .sheet) ≡ true)
+  unfolding table-sized
+  table-sizes =
+      let pages = between least-pages most-pages (N m) in
+      let rows = eqb (length (m .sheet)) records in
+      let outer = and-eq-true-iff (pages && rows) (every (λ r. eqb (length r) record-size) (m .sheet)) .0 e in
+      let inner = and-eq-true-iff pages rows .0 (outer .0) in
+      (inner .0, inner .1, outer .1)
+
+  -- a page's number fits four bytes
+  pub few-pages : N m ≤ most-pages
+  unfolding between
+  few-pages = leb-true _ _ (and-eq-true-iff (leb least-pages (N m)) (leb (N m) most-pages) .0 (table-sizes .0) .1)
+
+  -- sixteen records
+  pub sheet-length : length (m .sheet) ≡ records
+  sheet-length = eqb-true _ _ (table-sizes .1)
+
+  -- record i is one of them
+  pub in-sheet : {i : ℕ} → i < records → i < length (m .sheet)
+  in-sheet h = rw sheet-length h
+
+  -- of 32 bytes each
+  pub record-length : (i : ℕ) → i < records → length (record-at m i) ≡ record-size
+  unfolding record-at
+  record-length i h = eqb-true _ _ (every→ (λ r. eqb (length r) record-size) (m .sheet) i [] (table-sizes .2) (in-sheet h))
+
+-- ---- memory
+
+module _ (m : Lent) (e : pages-sized m ≡ true) where
+  -- the two tests
+  pub memory-sizes : (length (m .memory) ≡ N m) × (every (λ page. eqb (length page) page-size) (m .memory) ≡ true)
+  unfolding pages-sized
+  memory-sizes =
+      let both = and-eq-true-iff (eqb (length (m .memory)) (N m)) (every (λ page. eqb (length page) page-size) (m .memory)) .0 e in
+      (eqb-true _ _ (both .0), both .1)
+
+  -- a page below N is in memory
+  pub page-there : {p : ℕ} → p < N m → p < length (m .memory)
+  page-there h = rw (memory-sizes .0) h
+
+  -- a page in memory is whole
+  pub page-whole : (p : ℕ) → p < length (m .memory) → length (page-at m p) ≡ page-size
+  unfolding page-at
+  page-whole p h = eqb-true _ _ (every→ (λ page. eqb (length page) page-size) (m .memory) p [] (memory-sizes .1) h)
+
+  -- the same memory, and as many pages
+  pub pages-kept : (after : Lent) → after .memory ≡ m .memory → N after ≡ N m → pages-sized after ≡ true
+  unfolding pages-sized
+  pages-kept after same n = rw (n, same) e
+
+  -- one page set to another of right size
+  pub page-set-sized : (p : ℕ) (page : List ℕ) → (p < length (m .memory) → length page ≡ page-size)
+      → pages-sized (with-memory (set (m .memory) p page) m) ≡ true
+  unfolding pages-sized with-memory N
+  page-set-sized p page f =
+      let whole = every-set (λ page. eqb (length page) page-size) (m .memory) p page (memory-sizes .1) (λ h. eq-eqb _ _ (f h)) in
+      rw (length-set (m .memory) p page, eq-eqb _ _ (memory-sizes .0), whole)
+
+  -- a write
+  pub written-sized : (p offset : ℕ) (bytes : List ℕ) → pages-sized (write p offset bytes m) ≡ true
+  unfolding write written page-at
+  written-sized p offset bytes =
+      page-set-sized p (sets (getD (m .memory) p []) offset bytes) (λ h. length-sets (getD (m .memory) p []) offset bytes ∙ page-whole p h)
+
+  -- a page filled with zeros
+  pub filled-sized : (p : ℕ) → pages-sized (fill p m) ≡ true
+  unfolding fill
+  filled-sized p = page-set-sized p (zeros page-size) (λ h. length-zeros page-size)
