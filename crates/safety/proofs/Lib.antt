@@ -10,4 +10,5 @@ pub mod Kept
 pub mod Pool
 pub mod Bytes
 pub mod Results
+pub mod Numbers
 pub mod Theorems

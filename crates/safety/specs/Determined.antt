@@ -5,7 +5,7 @@ use mathlib.Core.List.{List}
 use Prim.Native.Nat.{ℕ}
 use Rattle.rules.specs.declared.Registers.{Registers}
 use Rattle.rules.specs.declared.Plan.{Plan}
-use Rattle.rules.specs.Answers.{Answered, numbered, outcome-number, launched-number, verdict-number}
+use Rattle.rules.specs.Answers.{Answered, numbered, outcome-number, code-number, launched-number, verdict-number}
 use Rattle.rules.specs.Call.{Posed}
 use Rattle.rules.specs.Flat.{Buffers, launch-bytes, store-bytes, mark-bytes, call-bytes, door-bytes}
 
@@ -40,3 +40,10 @@ Monitor-mark-determined = (i value : ℕ) (sheet : List ℕ) → Determined (num
 
 unfoldable pub Monitor-call-determined : Type 0
 Monitor-call-determined = (caller : ℕ) (s : Posed (List ℕ) Buffers) → Determined (numbered outcome-number (door-bytes caller s))
+
+-- "For each answer that is an enum, a definition gives this paper's number": two cases with one number are one, so that the numbers lose nothing
+unfoldable pub Told-apart : {A : Type 0} → (A → ℕ) → Type 0
+Told-apart {A = A} number = (one other : A) → number one ≡ number other → one ≡ other
+
+unfoldable pub Answers-told-apart : Type 0
+Answers-told-apart = Told-apart outcome-number × Told-apart code-number × Told-apart launched-number × Told-apart verdict-number
