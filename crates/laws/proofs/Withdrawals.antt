@@ -1,37 +1,17 @@
--- Laws for Withdraw: the list page's test looks at the table alone; gPAs in a row; writes in one page at places apart come in either order.
+-- Laws for Withdraw: gPAs in a row, one place more, and writes in one page at places apart, which come in either order.
 use mathlib.Core.Path.{_≡_, refl, sym, _∙_, ap}
-use mathlib.Core.Bool.{Bool, false, not, _&&_, _||_, and-eq-true-iff}
+use mathlib.Core.Bool.{Bool}
 use mathlib.Core.List.{List, [], _∷_, _++_, append-assoc}
 use Prim.Native.Nat.{ℕ, suc, _+_, _*_, _<_, _≤_}
 use native.Mathlib.Omega.{arith}
 use native.Mathlib.Nat.{zero-add}
-use borrow.Author.Tests.{ltb-true, not-false}
-use lib.Dec.{eqb, ltb}
 use lib.ListN.{length, getD, set, take, length-append}
 use lib.Seq.{sets, getD-set-same, set-getD, set-set, set-comm, length-take-le, take-suc}
 use Rattle.rules.specs.Words.{page-size, little, places}
-use Rattle.rules.specs.Machine.{Lent, N, below, page-of, offset-of, table-byte, valid, owned-by, usable, written}
-use Rattle.rules.specs.Lists.{bad-list-page}
+use Rattle.rules.specs.Machine.{written}
 use Rattle.rules.specs.Calls.{gpas}
 use Rattle.laws.proofs.Numbers.{length-little}
-use Rattle.laws.proofs.Ranges.{places-append, or-false}
-
--- ---- the list page
-
-module _ (vmpl rcx : ℕ) (m : Lent) where
-  pub list-page-table : bad-list-page vmpl rcx m ≡ bad-list-page vmpl rcx (record { memory = []; table = m .table; sheet = [] })
-  unfolding bad-list-page usable below N owned-by table-byte
-  list-page-table = refl
-
-  -- a list page that passes is a page of the machine
-  pub list-page-below : bad-list-page vmpl rcx m ≡ false → page-of rcx < length (m .table)
-  unfolding bad-list-page usable below N
-  list-page-below e =
-      let p = page-of rcx in
-      let strange = not (owned-by 0 m p) && not (owned-by 1 m p) in
-      let outer = or-false (not (usable vmpl m p) || strange) (owned-by 1 m p && eqb (offset-of rcx) 0) e in
-      let both = not-false (usable vmpl m p) (or-false (not (usable vmpl m p)) strange (outer .0) .0) in
-      ltb-true p (length (m .table)) (and-eq-true-iff (ltb p (length (m .table))) (valid (table-byte m p)) .0 both .0)
+use Rattle.laws.proofs.Ranges.{places-append}
 
 -- ---- gPAs
 
