@@ -1,10 +1,12 @@
 -- The entries of a list: what one that reads says of its pages, and that a run over the list keeps what each of its entries and the stored index keep.
-use mathlib.Core.Path.{_≡_, refl, _∙_}
+use mathlib.Core.Path.{_≡_, refl, sym, _∙_}
 use mathlib.Core.Bool.{Bool, true, false, cond, not, _&&_, and-eq-true-iff}
+use mathlib.Core.List.{List, [], _∷_}
 use Prim.Native.Nat.{ℕ, zero, suc, _+_, _<_, _≤_}
 use native.Mathlib.Omega.{arith}
 use lib.Dec.{eqb, ltb}
-use borrow.Author.Tests.{eqb-true, ltb-true}
+use lib.Seq.{getD-set-other}
+use borrow.Author.Tests.{eqb-true, eqb-false, ltb-true, not-true}
 use Rattle.rules.specs.declared.Code.{Code}
 use Rattle.rules.specs.declared.Entry.{Entry}
 use Rattle.rules.specs.declared.Entry.the-variants.{Reads, Unread}
@@ -13,10 +15,10 @@ use Rattle.rules.specs.declared.ListCall.the-variants.{Pvalidate, Deposit}
 use Rattle.rules.specs.declared.Wish.{Wish}
 use Rattle.rules.specs.declared.Wish.the-variants.{Invalid, Valid, Pool}
 use Rattle.rules.specs.Answers.{Answered}
-use Rattle.rules.specs.Words.{bit, range, every}
-use Rattle.rules.specs.Machine.{Lent, N, below, page-of, with-memory, write, owner, valid, table-byte, owned-by, usable, vcpu}
-use Rattle.rules.specs.Lists.{list-entry, store-index, entry-first, entry-pages, covered, malformed, coverable, read-covered, read-entry}
-use Rattle.rules.specs.Lists.{carry-out-all, after-entry, run, run-within}
+use Rattle.rules.specs.Words.{bit, range, every, each}
+use Rattle.rules.specs.Machine.{Lent, N, below, page-of, page-at, with-memory, write, fill, owner, valid, table-byte, put, owned-by, usable, record-at, vcpu}
+use Rattle.rules.specs.Lists.{in-list, list-count, list-entry, store-index, entry-first, entry-pages, covered, malformed, coverable, read-covered, read-entry}
+use Rattle.rules.specs.Lists.{cleared, carry-out, carry-out-all, after-entry, run, run-within}
 use Rattle.laws.proofs.Ranges.{by-test, every-range→}
 use Rattle.safety.proofs.Effects.{entry-sheet}
 
@@ -132,6 +134,45 @@ entry-read call caller rcx e first n wish m h =
           let c = coverable→ caller rcx m p (every-range→ (coverable caller rcx m) first n passed p l b) in
           (c .0, told .3 p l b (c .1));
     }
+
+-- ---- the list's page, which an entry that reads does not cover
+
+page-elsewhere : (wish : Wish) (vmpl p q : ℕ) (m : Lent) → eqb p q ≡ false → page-at (carry-out wish vmpl p m) q ≡ page-at m q
+unfolding carry-out cleared fill put with-memory page-at
+page-elsewhere Invalid vmpl p q m e = refl
+page-elsewhere Valid vmpl p q m e = getD-set-other (m .memory) p q _ [] (λ f. eqb-false p q e (sym f))
+page-elsewhere Pool vmpl p q m e = refl
+
+pages-elsewhere : (wish : Wish) (vmpl caller rcx : ℕ) (ps : List ℕ) (m now : Lent) → every (coverable caller rcx m) ps ≡ true
+    → page-at (each (carry-out wish vmpl) ps now) (page-of rcx) ≡ page-at now (page-of rcx)
+unfolding every each coverable
+pages-elsewhere wish vmpl caller rcx [] m now h = refl
+pages-elsewhere wish vmpl caller rcx (p ∷ ps) m now h =
+    let both = and-eq-true-iff (coverable caller rcx m p) (every (coverable caller rcx m) ps) .0 h in
+    let other = and-eq-true-iff (below m p && owned-by 0 m p) (not (eqb p (page-of rcx))) .0 (both .0) .1 in
+    pages-elsewhere wish vmpl caller rcx ps m (carry-out wish vmpl p now) (both .1)
+    ∙ page-elsewhere wish vmpl p (page-of rcx) now (not-true _ other)
+
+module _ (call : ListCall) (caller rcx e first n : ℕ) (wish : Wish) (m : Lent) (h : read-entry call caller rcx e m ≡ Reads first n wish) where
+  list-kept : page-at (carry-out-all wish (vcpu m caller .vmpl) first n m) (page-of rcx) ≡ page-at m (page-of rcx)
+  unfolding carry-out-all
+  list-kept = pages-elsewhere wish (vcpu m caller .vmpl) caller rcx (range first n) m m (entry-read call caller rcx e first n wish m h .passed)
+
+  -- so the list's count
+  pub count-kept : list-count rcx (carry-out-all wish (vcpu m caller .vmpl) first n m) ≡ list-count rcx m
+  unfolding list-count in-list
+  count-kept = rw list-kept
+
+  -- and its entries are as they were
+  pub entry-kept : (k : ℕ) → list-entry k rcx (carry-out-all wish (vcpu m caller .vmpl) first n m) ≡ list-entry k rcx m
+  unfolding list-entry in-list
+  entry-kept k = rw list-kept
+
+-- an entry reads the same once an index is stored
+pub read-stored : (call : ListCall) (caller rcx e k : ℕ) (m : Lent) → read-entry call caller rcx e (store-index k rcx m) ≡ read-entry call caller rcx e m
+unfolding read-entry read-covered coverable store-index write with-memory below owned-by usable table-byte vcpu record-at N
+read-stored Pvalidate caller rcx e k m = refl
+read-stored Deposit caller rcx e k m = refl
 
 -- ---- a run
 

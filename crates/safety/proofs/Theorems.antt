@@ -4,9 +4,10 @@ use mathlib.Core.Bool.{true}
 use Prim.Native.Nat.{ℕ, _<_}
 use Rattle.rules.specs.Words.{records, entries-a-call}
 use Rattle.rules.specs.Machine.{Lent, is-live, record-at}
+use Rattle.rules.specs.Runs.{run-steps}
 use Rattle.safety.specs.Statements.{Launched-sound, Stays-sound, Sealed, Monitor-kept, Vmsa-kept, Pool-kept, Step-counted, Run-counted}
 use Rattle.safety.specs.Statements.{Counted-from-launch, At-most, At-most-twelve, All-come-back, Unreal-changes-nothing, Unreal-changes-no-byte}
-use Rattle.safety.specs.Statements.{Gone-leaves, Refusal-leaves, Validated-once, Second-validation-refused, Validated-pages-zero}
+use Rattle.safety.specs.Statements.{Gone-leaves, Refusal-leaves, Validated-once, Second-validation-refused, Validated-pages-zero, Carried-out}
 use Rattle.safety.specs.Statements.{Launched-on-bytes, Runs-on-bytes}
 use Rattle.safety.proofs.Sound.Facts.{Sound}
 use Rattle.safety.proofs.Sound.OnePage.{write-sound}
@@ -19,7 +20,7 @@ use Rattle.safety.proofs.Sound.Delete.{delete-sound}
 use Rattle.safety.proofs.Sound.Create.{create-sound}
 use Rattle.safety.proofs.Sound.Launch as Launch
 use Rattle.safety.proofs.Sound.Runs.{Each-sound, stays-sound-by}
-use Rattle.safety.proofs.Kept.Sealed as Sealing
+use Rattle.safety.proofs.Kept.Sealed.{sealed-now}
 use Rattle.safety.proofs.Kept.Fates.{Owned}
 use Rattle.safety.proofs.Kept.Steps as Kept
 use Rattle.safety.proofs.Pool.Steps as Pool
@@ -59,7 +60,8 @@ stays-sound = stays-sound-by each-sound
 
 -- 2
 pub sealed : Sealed
-sealed = Sealing.sealed
+unfolding Sealed Stays-sound
+sealed ss m e = sealed-now (run-steps ss m .lent) (stays-sound ss m e)
 
 -- 3
 pub monitor-kept : Monitor-kept
@@ -86,12 +88,12 @@ counted-from-launch = counted-from-launch-by stays-sound launched-sound
 
 -- 5
 pub at-most : At-most
-unfolding At-most
-at-most = InUse.at-most
+unfolding At-most Stays-sound
+at-most ss m e = InUse.at-most (run-steps ss m .lent) (stays-sound ss m e)
 
 pub at-most-twelve : At-most-twelve
-unfolding At-most-twelve
-at-most-twelve = InUse.at-most-twelve
+unfolding At-most-twelve Stays-sound
+at-most-twelve ss m e = InUse.at-most-twelve (run-steps ss m .lent) (stays-sound ss m e)
 
 -- 6
 pub all-come-back : All-come-back
@@ -125,6 +127,9 @@ second-validation-refused = Second.second-validation-refused
 pub validated-pages-zero : Validated-pages-zero
 unfolding Validated-pages-zero
 validated-pages-zero = Second.validated-pages-zero
+
+pub carried-out : Carried-out
+carried-out = Second.carried-out
 
 -- on the lent bytes
 pub launched-on-bytes : Launched-on-bytes

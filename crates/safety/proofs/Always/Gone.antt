@@ -16,14 +16,14 @@ use Rattle.rules.specs.declared.ListCall.{ListCall}
 use Rattle.rules.specs.declared.ListCall.the-variants.{Pvalidate, Deposit}
 use Rattle.rules.specs.Answers.{Answered, outcome-number}
 use Rattle.rules.specs.Words.{record-size, entries-a-call}
-use Rattle.rules.specs.Machine.{Lent, Machine, with-lent, page-of, page-at, with-memory, written, write, zeros, is-live, record-at, vcpu, startup}
+use Rattle.rules.specs.Machine.{Lent, Machine, with-lent, page-of, page-at, with-memory, written, write, zeros, is-live, record-at, vcpu, startup, efer}
 use Rattle.rules.specs.Lists.{list-call}
 use Rattle.rules.specs.Calls.{remap, free-record, new-record, create, Asked, asked, clear-svme, deleted, named-by, delete, withdraw, any-free}
 use Rattle.rules.specs.Call.{Posed, pending, on-lent, on-rcx, handle, set-flag, finish, call}
 use Rattle.laws.proofs.Ranges.{by-test}
 use Rattle.laws.proofs.Numbers.{getD-sets-elsewhere}
 use Rattle.laws.proofs.Records.{is-live-laid-out, is-live-remapped}
-use Rattle.safety.specs.Statements.{unreal, Left-by-gone, Gone-leaves}
+use Rattle.safety.specs.Statements.{unreal, svme-cleared, Left-by-gone, Gone-leaves}
 use Rattle.safety.proofs.Effects.{remapped-sheet, created-sheet, deleted-sheet, deleted-memory, withdrawn-sheet}
 use Rattle.safety.proofs.Entries.{run-within-sheet}
 use Rattle.safety.proofs.Branches.{never, on-handle, called-real, real-call}
@@ -153,6 +153,7 @@ module _ (caller : ℕ) (g : Registers) (m : Lent) (other : caller ≡ 0 → ⊥
   left-pending = rw left-memory (written-before _ 1 _ _ _ 0 (omega arith) ∙ written-before _ 0xD0 _ _ _ 0 (omega arith))
 
   left : Left-by-gone caller g m (record { registers = g; machine = record { lent = set-flag after } })
+  unfolding svme-cleared clear-svme write with-memory efer page-at
   left = record { registers = refl; pending-byte = left-pending; memory = left-memory }
 
 -- a call that ends as gone

@@ -1,29 +1,32 @@
 -- Statement 8, refused: registers but RAX and the sheet are as they were, and the last writes are applied to the machine on entry or, for a list refused
--- at an entry, to the machine after the run up to there.
+-- at an entry, to the machine after the run up to there, in which that entry reads as a refusal.
 use mathlib.Core.Path.{_≡_, refl, sym, _∙_, ap}
 use mathlib.Core.Logic.{_⊎_, inl, inr}
-use mathlib.Core.Bool.{Bool, true, not, _&&_, true≢false}
+use mathlib.Core.Bool.{Bool, true, false, not, _&&_, true≢false}
 use Prim.Native.Nat.{ℕ, zero, suc, _+_, _-_, _<_, _≤_, min}
 use native.Mathlib.Omega.{arith}
 use lib.Dec.{eqb, ltb}
+use borrow.Author.Tests.{eq-eqb, lt-ltb, leb-false, not-false}
 use Rattle.rules.specs.declared.Registers.{Registers}
 use Rattle.rules.specs.declared.Code.{Code}
-use Rattle.rules.specs.declared.Code.the-variants.{Success}
+use Rattle.rules.specs.declared.Code.the-variants.{Success, Incomplete}
 use Rattle.rules.specs.declared.Outcome.the-variants.{Handled, Gone}
 use Rattle.rules.specs.declared.Entry.{Entry}
 use Rattle.rules.specs.declared.Entry.the-variants.{Reads, Unread}
 use Rattle.rules.specs.declared.ListCall.{ListCall}
 use Rattle.rules.specs.declared.ListCall.the-variants.{Pvalidate, Deposit}
 use Rattle.rules.specs.Answers.{Answered, code-number, outcome-number}
-use Rattle.rules.specs.Words.{entries-a-call}
+use Rattle.rules.specs.Words.{entries-a-call, multiple}
 use Rattle.rules.specs.Machine.{Lent, Machine, with-lent, with-memory, write, is-live, record-at, vcpu}
-use Rattle.rules.specs.Lists.{list-count, list-next, list-entry, read-entry, carry-out-all, after-entry, run, run-within, list-call}
+use Rattle.rules.specs.Lists.{list-count, list-next, list-entry, store-index, bad-list-page, bad-count, bad-next, read-entry, carry-out-all, after-entry, run, run-within}
+use Rattle.rules.specs.Lists.{list-call}
 use Rattle.rules.specs.Calls.{remap, create, delete, withdraw, configure, vtom}
-use Rattle.rules.specs.Call.{Posed, with-rax, with-rcx, call-number, on-lent, on-rcx, handle, clear-pending, set-flag, finish, call}
+use Rattle.rules.specs.Call.{Posed, with-rax, with-rcx, on-lent, on-rcx, handle, clear-pending, set-flag, finish, call}
+use Rattle.rules.specs.Runs.{head-accepted}
 use Rattle.laws.proofs.Ranges.{by-test}
-use Rattle.safety.specs.Statements.{unreal, refused, last-writes, number-of-list-call, At-entry, Left-by-refusal, Refusal-leaves}
+use Rattle.safety.specs.Statements.{asks-for, unreal, refused, last-writes, number-of-list-call, At-entry, Left-by-refusal, Refusal-leaves}
 use Rattle.safety.proofs.Branches.{on-test, on-refuse, never, on-handle, called-real, real-call}
-use Rattle.safety.proofs.Entries.{run-within-sheet}
+use Rattle.safety.proofs.Entries.{count-kept, entry-kept, read-stored, run-within-sheet}
 
 -- a code that refuses
 unfoldable refuses : Code → Bool
@@ -31,54 +34,101 @@ refuses c = not (eqb (code-number c) 0) && not (eqb (code-number c) 0x80000000)
 
 -- ---- the run over a list
 
--- a run that is refused stopped at an entry, and left what the run up to there leaves
-record Stopped (call : ListCall) (caller rcx todo k : ℕ) (m after : Lent) : Type 0 where
+-- a run that is refused stopped at an entry: the run up to there was well and left entries, and what it left is what is left now
+record Stopped (call : ListCall) (caller rcx k : ℕ) (m : Lent) (a : Answered Code Lent) : Type 0 where
   entry : ℕ
   from : k ≤ entry
-  below : entry < k + todo
-  reached : after ≡ run call caller rcx (entry - k) k m .after
+  below : entry < list-count rcx m
+  before : Lent
+  earlier : run call caller rcx (entry - k) k m ≡ record { answer = Incomplete; after = before }
+  code : Code
+  unread : read-entry call caller rcx (list-entry entry rcx m) before ≡ Unread code
+  told : a .answer ≡ code
+  reached : a .after ≡ before
 
-stopped-later : (e : Entry) (call : ListCall) (caller rcx todo k : ℕ) (m : Lent) → read-entry call caller rcx (list-entry k rcx m) m ≡ e
-    → ((now : Lent) → refuses (run call caller rcx todo (suc k) now .answer) ≡ true
-    → Stopped call caller rcx todo (suc k) now (run call caller rcx todo (suc k) now .after))
-    → refuses (after-entry e caller rcx k (run call caller rcx todo (suc k)) m .answer) ≡ true
-    → Stopped call caller rcx (suc todo) k m (after-entry e caller rcx k (run call caller rcx todo (suc k)) m .after)
+stopped-later : (x : Entry) (call : ListCall) (caller rcx todo k : ℕ) (m : Lent) → read-entry call caller rcx (list-entry k rcx m) m ≡ x
+    → suc (k + todo) ≤ list-count rcx m
+    → ((now : Lent) → suc k + todo ≤ list-count rcx now → refuses (run call caller rcx todo (suc k) now .answer) ≡ true
+    → Stopped call caller rcx (suc k) now (run call caller rcx todo (suc k) now))
+    → refuses (after-entry x caller rcx k (run call caller rcx todo (suc k)) m .answer) ≡ true
+    → Stopped call caller rcx k m (after-entry x caller rcx k (run call caller rcx todo (suc k)) m)
 unfolding run after-entry
-stopped-later (Reads first n wish) call caller rcx todo k m e later h =
+stopped-later (Reads first n wish) call caller rcx todo k m e b later h =
     let now : Lent = carry-out-all wish (vcpu m caller .vmpl) first n m in
-    let s = later now h in
-    let same : s .entry - k ≡ suc (s .entry - suc k) = omega arith in
-    record { entry = s .entry; from = omega arith; below = omega arith; reached = s .reached ∙ rw (same, e) }
-stopped-later (Unread code) call caller rcx todo k m e later h =
+    let count = count-kept call caller rcx (list-entry k rcx m) first n wish m e in
+    let s = later now (omega (arith, count)) h in
+    let same : s .entry - k ≡ suc (s .entry - suc k) = omega (arith, s .from) in
+    record {
+      entry = s .entry;
+      from = omega (arith, s .from);
+      below = omega (arith, count, s .below);
+      before = s .before;
+      earlier = rw (same, e) (s .earlier);
+      code = s .code;
+      unread = rw (entry-kept call caller rcx (list-entry k rcx m) first n wish m e (s .entry)) at (s .unread);
+      told = s .told;
+      reached = s .reached;
+    }
+stopped-later (Unread code) call caller rcx todo k m e b later h =
     let none : k - k ≡ 0 = omega arith in
-    record { entry = k; from = omega arith; below = omega arith; reached = rw none }
+    let less : ltb k (list-count rcx m) ≡ true = lt-ltb k (list-count rcx m) (omega arith) in
+    record {
+      entry = k;
+      from = omega arith;
+      below = omega arith;
+      before = store-index k rcx m;
+      earlier = rw (none, less);
+      code = code;
+      unread = read-stored call caller rcx (list-entry k rcx m) k m ∙ e;
+      told = refl;
+      reached = refl;
+    }
 
-run-stopped : (call : ListCall) (caller rcx todo k : ℕ) (m : Lent) → refuses (run call caller rcx todo k m .answer) ≡ true
-    → Stopped call caller rcx todo k m (run call caller rcx todo k m .after)
+run-stopped : (call : ListCall) (caller rcx todo k : ℕ) (m : Lent) → k + todo ≤ list-count rcx m → refuses (run call caller rcx todo k m .answer) ≡ true
+    → Stopped call caller rcx k m (run call caller rcx todo k m)
 unfolding run refuses code-number
-run-stopped call caller rcx zero k m h =
+run-stopped call caller rcx zero k m b h =
     by-test (ltb k (list-count rcx m)) (λ t. absurd (true≢false (sym (rw t at h)))) (λ t. absurd (true≢false (sym (rw t at h))))
-run-stopped call caller rcx (suc todo) k m h =
-    stopped-later (read-entry call caller rcx (list-entry k rcx m) m) call caller rcx todo k m refl (run-stopped call caller rcx todo (suc k)) h
+run-stopped call caller rcx (suc todo) k m b h =
+    stopped-later (read-entry call caller rcx (list-entry k rcx m) m) call caller rcx todo k m refl (omega arith)
+    (λ now c. run-stopped call caller rcx todo (suc k) now (omega arith)) h
 
 -- ---- each call, before the last writes
 
--- the machine as it was, or as the run up to the refused entry left it
-record Ran (call : ListCall) (caller rcx : ℕ) (m after : Lent) : Type 0 where
+-- a list whose head was accepted, refused at an entry
+record Ran (call : ListCall) (caller rcx : ℕ) (m : Lent) (a : Answered Code Lent) : Type 0 where
+  head : head-accepted (vcpu m caller .vmpl) rcx m ≡ true
   entry : ℕ
   from : list-next rcx m ≤ entry
   below : entry < list-count rcx m
-  reached : after ≡ run-within (entry - list-next rcx m) call caller rcx m .after
+  before : Lent
+  earlier : run-within (entry - list-next rcx m) call caller rcx m ≡ record { answer = Incomplete; after = before }
+  code : Code
+  unread : read-entry call caller rcx (list-entry entry rcx m) before ≡ Unread code
+  told : a .answer ≡ code
+  reached : a .after ≡ before
 
-within-stopped : (budget : ℕ) (call : ListCall) (caller rcx : ℕ) (m : Lent) → refuses (run-within budget call caller rcx m .answer) ≡ true
-    → Ran call caller rcx m (run-within budget call caller rcx m .after)
+within-stopped : (budget : ℕ) (call : ListCall) (caller rcx : ℕ) (m : Lent) → head-accepted (vcpu m caller .vmpl) rcx m ≡ true
+    → list-next rcx m < list-count rcx m → refuses (run-within budget call caller rcx m .answer) ≡ true
+    → Ran call caller rcx m (run-within budget call caller rcx m)
 unfolding run-within
-within-stopped budget call caller rcx m h =
+within-stopped budget call caller rcx m head less h =
     let next = list-next rcx m in
     let count = list-count rcx m in
-    let s = run-stopped call caller rcx (min budget (count - next)) next m h in
-    let same : min (s .entry - next) (count - next) ≡ s .entry - next = omega arith in
-    record { entry = s .entry; from = s .from; below = omega arith; reached = rw same (s .reached) }
+    let s = run-stopped call caller rcx (min budget (count - next)) next m (omega arith) h in
+    let same : min (s .entry - next) (count - next) ≡ s .entry - next = omega (arith, s .below, s .from) in
+    record {
+      head = head;
+      entry = s .entry;
+      from = s .from;
+      below = s .below;
+      before = s .before;
+      earlier = rw same (s .earlier);
+      code = s .code;
+      unread = s .unread;
+      told = s .told;
+      reached = s .reached;
+    }
 
 succeeds : {A : Type 0} → refuses Success ≡ true → A
 unfolding refuses code-number
@@ -117,47 +167,57 @@ module _ (m : Lent) where
   unfolding withdraw
   withdraw-unmoved caller rcx = on-refuse (Unmoved m) m _ _ _ (λ t h. refl) (λ t. on-refuse (Unmoved m) m _ _ _ (λ t h. refl) (λ t. succeeds))
 
+  accepted : (vmpl rcx : ℕ) → multiple 8 rcx ≡ true → bad-list-page vmpl rcx m ≡ false → bad-count rcx m ≡ false → bad-next rcx m ≡ false
+      → head-accepted vmpl rcx m ≡ true
+  unfolding head-accepted
+  accepted vmpl rcx eight page count next = rw (eight, page, count, next)
+
+  in-count : (rcx : ℕ) → bad-next rcx m ≡ false → list-next rcx m < list-count rcx m
+  unfolding bad-next
+  in-count rcx next = leb-false (list-count rcx m) (list-next rcx m) next
+
   list-moved : (budget : ℕ) (call : ListCall) (caller rcx : ℕ) → refuses (list-call budget call caller rcx m .answer) ≡ true
-      → (list-call budget call caller rcx m .after ≡ m) ⊎ Ran call caller rcx m (list-call budget call caller rcx m .after)
+      → (list-call budget call caller rcx m .after ≡ m) ⊎ Ran call caller rcx m (list-call budget call caller rcx m)
   unfolding list-call
   list-moved budget call caller rcx =
-      let Moved : Answered Code Lent → Type 0 = λ a. refuses (a .answer) ≡ true → (a .after ≡ m) ⊎ Ran call caller rcx m (a .after) in
-      on-refuse Moved m _ _ _ (λ t h. inl refl) (λ t.
-      on-refuse Moved m _ _ _ (λ t h. inl refl) (λ t.
-      on-refuse Moved m _ _ _ (λ t h. inl refl) (λ t.
-      on-refuse Moved m _ _ _ (λ t h. inl refl) (λ t h. inr (within-stopped budget call caller rcx m h)))))
+      let Moved : Answered Code Lent → Type 0 = λ a. refuses (a .answer) ≡ true → (a .after ≡ m) ⊎ Ran call caller rcx m a in
+      on-refuse Moved m (not (multiple 8 rcx)) _ _ (λ t h. inl refl) (λ eight.
+      on-refuse Moved m (bad-list-page (vcpu m caller .vmpl) rcx m) _ _ (λ t h. inl refl) (λ page.
+      on-refuse Moved m (bad-count rcx m) _ _ (λ t h. inl refl) (λ count.
+      on-refuse Moved m (bad-next rcx m) _ _ (λ t h. inl refl) (λ next h.
+      inr (within-stopped budget call caller rcx m (accepted (vcpu m caller .vmpl) rcx (not-false _ eight) page count next) (in-count rcx next) h)))))
 
 -- what a refused call left before the last writes
-record Entered (caller : ℕ) (g : Registers) (m after : Lent) : Type 0 where
+record Entered (caller : ℕ) (g : Registers) (m : Lent) (a : Answered Code (Posed Registers Machine)) : Type 0 where
   call : ListCall
-  asked : call-number g ≡ number-of-list-call call
-  ran : Ran call caller (g .rcx) m after
+  asked : asks-for (number-of-list-call call) g ≡ true
+  ran : Ran call caller (g .rcx) m (record { answer = a .answer; after = a .after .machine .lent })
 
-record Left (caller : ℕ) (g : Registers) (m : Lent) (after : Posed Registers Machine) : Type 0 where
-  registers : after .registers ≡ g
-  lent : (after .machine .lent ≡ m) ⊎ Entered caller g m (after .machine .lent)
+record Left (caller : ℕ) (g : Registers) (m : Lent) (a : Answered Code (Posed Registers Machine)) : Type 0 where
+  registers : a .after .registers ≡ g
+  lent : (a .after .machine .lent ≡ m) ⊎ Entered caller g m a
 
 module _ (caller : ℕ) (g : Registers) (m : Machine) where
   abbrev posed : Posed Registers Machine
   posed = record { registers = g; machine = m }
 
   abbrev Leaves : Answered Code (Posed Registers Machine) → Type 0
-  Leaves a = refuses (a .answer) ≡ true → Left caller g (m .lent) (a .after)
+  Leaves a = refuses (a .answer) ≡ true → Left caller g (m .lent) a
 
-  same : Left caller g (m .lent) posed
-  same = record { registers = refl; lent = inl refl }
+  same : (code : Code) → Left caller g (m .lent) (record { answer = code; after = posed })
+  same code = record { registers = refl; lent = inl refl }
 
   on-lent-leaves : (a : Answered Code Lent) → Unmoved (m .lent) a → Leaves (on-lent a posed)
   unfolding on-lent with-lent
   on-lent-leaves a unmoved h = record { registers = refl; lent = inl (unmoved h) }
 
-  on-list-leaves : (call : ListCall) → call-number g ≡ number-of-list-call call
+  on-list-leaves : (call : ListCall) → asks-for (number-of-list-call call) g ≡ true
       → Leaves (on-lent (list-call entries-a-call call caller (g .rcx) (m .lent)) posed)
   unfolding on-lent with-lent
   on-list-leaves call asked h = record { registers = refl; lent = entered (list-moved (m .lent) entries-a-call call caller (g .rcx) h) }
     where
-      entered : {after : Lent} → (after ≡ m .lent) ⊎ Ran call caller (g .rcx) (m .lent) after
-          → (after ≡ m .lent) ⊎ Entered caller g (m .lent) after
+      entered : {a : Answered Code Lent} → (a .after ≡ m .lent) ⊎ Ran call caller (g .rcx) (m .lent) a
+          → (a .after ≡ m .lent) ⊎ Entered caller g (m .lent) (on-lent a posed)
       entered (inl e) = inl e
       entered (inr r) = inr (record { call = call; asked = asked; ran = r })
 
@@ -166,59 +226,68 @@ module _ (caller : ℕ) (g : Registers) (m : Machine) where
   on-rcx-leaves a unmoved h = record { registers = rw (unmoved h); lent = inl refl }
 
   handle-leaves : Leaves (handle caller posed)
-  unfolding number-of-list-call
+  unfolding number-of-list-call asks-for
   handle-leaves =
       on-handle caller posed Leaves
       (record {
-        bad-pending = λ h. same;
-        unknown-protocol = λ e h. same;
+        bad-pending = λ h. same _;
+        unknown-protocol = λ e h. same _;
         remaps = λ e. on-lent-leaves _ (remap-unmoved (m .lent) caller (g .rcx));
-        validates = λ e. on-list-leaves Pvalidate (e .number);
+        validates = λ e. on-list-leaves Pvalidate (rw (eq-eqb _ _ (e .spoken), eq-eqb _ _ (e .number)));
         creates = λ e. on-lent-leaves _ (create-unmoved (m .lent) caller (g .rcx) (g .rdx) (g .r8));
         deletes = λ e. on-lent-leaves _ (delete-unmoved (m .lent) caller (g .rcx));
-        deposits = λ e. on-list-leaves Deposit (e .number);
+        deposits = λ e. on-list-leaves Deposit (rw (eq-eqb _ _ (e .spoken), eq-eqb _ _ (e .number)));
         withdraws = λ e. on-lent-leaves _ (withdraw-unmoved (m .lent) caller (g .rcx));
         queries = λ e. on-rcx-leaves _ succeeds;
         configures = λ e. on-rcx-leaves _ (vtom-unmoved (g .rcx));
-        unknown-call = λ e h. same;
+        unknown-call = λ e h. same _;
       })
 
 -- ---- the last writes
 
 last-writes-sheet : (caller : ℕ) (m : Lent) → last-writes caller m .sheet ≡ m .sheet
-unfolding last-writes set-flag clear-pending write with-memory
+unfolding last-writes write with-memory
 last-writes-sheet caller m = refl
 
-left-sheet : (caller : ℕ) (g : Registers) (m after : Lent) → (after ≡ m) ⊎ Entered caller g m after → after .sheet ≡ m .sheet
-left-sheet caller g m after (inl e) = ap (λ now. now .sheet) e
-left-sheet caller g m after (inr e) =
-    ap (λ now. now .sheet) (e .ran .reached) ∙ run-within-sheet (e .ran .entry - list-next (g .rcx) m) (e .call) caller (g .rcx) m
+module _ (caller : ℕ) (g : Registers) (m : Lent) (a : Answered Code (Posed Registers Machine)) where
+  left-sheet : (a .after .machine .lent ≡ m) ⊎ Entered caller g m a → a .after .machine .lent .sheet ≡ m .sheet
+  left-sheet (inl e) = ap (λ now. now .sheet) e
+  left-sheet (inr e) =
+      ap (λ now. now .sheet) (e .ran .reached) ∙ sym (ap (λ (x : Answered Code Lent). x .after .sheet) (e .ran .earlier))
+      ∙ run-within-sheet (e .ran .entry - list-next (g .rcx) m) (e .call) caller (g .rcx) m
 
-left-lent : (caller : ℕ) (g : Registers) (m after : Lent) → (after ≡ m) ⊎ Entered caller g m after
-    → (last-writes caller after ≡ last-writes caller m) ⊎ At-entry caller g m (last-writes caller after)
-left-lent caller g m after (inl e) = inl (ap (last-writes caller) e)
-left-lent caller g m after (inr e) =
-    inr (record {
-      call = e .call;
-      asked = e .asked;
-      entry = e .ran .entry;
-      from = e .ran .from;
-      below = e .ran .below;
-      reached = ap (last-writes caller) (e .ran .reached);
-    })
+  left-lent : (r : Registers) → r .rax ≡ code-number (a .answer) → (a .after .machine .lent ≡ m) ⊎ Entered caller g m a
+      → (last-writes caller (a .after .machine .lent) ≡ last-writes caller m)
+      ⊎ At-entry caller g m (record { registers = r; machine = record { lent = last-writes caller (a .after .machine .lent) } })
+  left-lent r rax (inl e) = inl (ap (last-writes caller) e)
+  left-lent r rax (inr e) =
+      inr (record {
+        call = e .call;
+        asked = e .asked;
+        head = e .ran .head;
+        entry = e .ran .entry;
+        from = e .ran .from;
+        below = e .ran .below;
+        before = e .ran .before;
+        earlier = e .ran .earlier;
+        code = e .ran .code;
+        unread = e .ran .unread;
+        told = rax ∙ ap code-number (e .ran .told);
+        reached = ap (last-writes caller) (e .ran .reached);
+      })
 
 -- a call that ends as handled, and refused
 ended : (caller : ℕ) (g : Registers) (m : Lent) (a : Answered Code (Posed Registers Machine))
-    → (refuses (a .answer) ≡ true → Left caller g m (a .after)) → finish caller g a .answer ≡ Handled
+    → (refuses (a .answer) ≡ true → Left caller g m a) → finish caller g a .answer ≡ Handled
     → refused (finish caller g a .after .registers) ≡ true → Left-by-refusal caller g m (finish caller g a .after)
-unfolding finish with-lent with-rax outcome-number refused refuses last-writes
+unfolding finish with-lent with-rax outcome-number refused refuses last-writes clear-pending set-flag
 ended caller g m a leaves handled h =
     by-test (is-live (record-at (a .after .machine .lent) caller))
     (λ t. let l = leaves (rw t at h) in
     rw t (record {
       registers = rw (l .registers);
-      sheet = last-writes-sheet caller (a .after .machine .lent) ∙ left-sheet caller g m (a .after .machine .lent) (l .lent);
-      lent = left-lent caller g m (a .after .machine .lent) (l .lent);
+      sheet = last-writes-sheet caller (a .after .machine .lent) ∙ left-sheet caller g m a (l .lent);
+      lent = left-lent caller g m a (with-rax (code-number (a .answer)) (a .after .registers)) refl (l .lent);
     }))
     (λ t. never Gone Handled refl (rw t at handled))
 

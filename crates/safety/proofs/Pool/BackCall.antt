@@ -11,16 +11,16 @@ use Rattle.rules.specs.declared.Outcome.the-variants.{Handled}
 use Rattle.rules.specs.declared.Code.the-variants.{Success}
 use Rattle.rules.specs.declared.Verdict.the-variants.{Done}
 use Rattle.rules.specs.Answers.{refuse, code-number}
-use Rattle.rules.specs.Machine.{Lent, with-lent, with-memory, N, below, page-of, offset-of, write, owner, valid, permitted, table-byte, owned-by, usable}
+use Rattle.rules.specs.Machine.{Lent, with-lent, N, below, page-of, offset-of, write, owner, valid, permitted, table-byte, owned-by, usable}
 use Rattle.rules.specs.Machine.{is-live, record-at, vcpu, startup}
 use Rattle.rules.specs.Sound.{bad-record, well-permitted}
 use Rattle.rules.specs.Steps.{may-store, store}
 use Rattle.rules.specs.Lists.{bad-list-page}
-use Rattle.rules.specs.Calls.{give-back, withdrawn-pages, withdrawn, withdraw}
+use Rattle.rules.specs.Calls.{withdrawn, withdraw}
 use Rattle.rules.specs.Call.{with-rax, bad-sheet, bad-machine, pending, no-call, protocol, call-number, on-lent, dispatch, handle, clear-pending}
 use Rattle.rules.specs.Call.{set-flag, finish, call}
 use Rattle.rules.specs.Runs.{called}
-use Rattle.laws.proofs.Ranges.{→absent, each-same}
+use Rattle.laws.proofs.Ranges.{→absent}
 use Rattle.safety.specs.Statements.{asking}
 use Rattle.safety.proofs.Effects.{withdrawn-sheet}
 use Rattle.safety.proofs.Sound.Facts.{Sound}

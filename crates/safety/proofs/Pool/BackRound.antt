@@ -5,10 +5,10 @@ use mathlib.Core.Bool.{true, false, cond, not, and-eq-true-iff}
 use mathlib.Core.List.{List, [], _∷_}
 use Prim.Native.Nat.{ℕ, _+_, _-_, _*_, _/_, _<_, _≤_, min}
 use native.Mathlib.Omega.{arith}
-use lib.Dec.{eqb, ltb}
-use lib.ListN.{length, getD, length-take, length-set}
+use lib.Dec.{eqb}
+use lib.ListN.{length, length-take, length-set}
 use lib.Seq.{sets, getD-set-same}
-use borrow.Author.Tests.{eqb-true, eqb-false, ltb-true, ltb-false, ne-eqb}
+use borrow.Author.Tests.{eqb-true, eqb-false, ne-eqb}
 use Rattle.rules.specs.Words.{page-size, records, between, little, number, every, exists, count, places, each}
 use Rattle.rules.specs.Machine.{Lent, N, offset-of, page-at, with-memory, written, write, owner, valid, permitted, grant, own, table-byte, put, change}
 use Rattle.rules.specs.Machine.{vcpu, startup}

@@ -12,7 +12,7 @@ use Rattle.rules.specs.Words.{page-size, records, multiple, little, number}
 use Rattle.rules.specs.Machine.{Lent, page-of, offset-of, page-at, write, with-memory, is-live, record-at, vcpu, startup}
 use Rattle.rules.specs.Lists.{in-list}
 use Rattle.rules.specs.Calls.{any-free}
-use Rattle.rules.specs.Call.{clear-pending, set-flag}
+use Rattle.rules.specs.Call.{clear-pending}
 use Rattle.laws.proofs.Ranges.{by-test}
 use Rattle.laws.proofs.Numbers.{number-elsewhere, number-written}
 use Rattle.safety.specs.Statements.{last-writes}
@@ -70,7 +70,7 @@ module _ (caller rcx w at : ℕ) (m : Lent) (mine : page-of rcx ≡ vcpu m calle
 
   -- both writes
   pub in-list-last : in-list w at rcx (last-writes caller m) ≡ in-list w at rcx m
-  unfolding last-writes set-flag
+  unfolding last-writes clear-pending
   in-list-last =
       let now = clear-pending caller m in
       in-list-write (startup now .calling) 1 (cond (any-free now) 1 0 ∷ []) now w at rcx
@@ -78,5 +78,5 @@ module _ (caller rcx w at : ℕ) (m : Lent) (mine : page-of rcx ≡ vcpu m calle
 
 -- and the table
 pub table-last : (caller : ℕ) (m : Lent) → last-writes caller m .table ≡ m .table
-unfolding last-writes set-flag clear-pending write with-memory
+unfolding last-writes write with-memory
 table-last caller m = refl

@@ -54,7 +54,7 @@ module _ (caller : ℕ) (g : Registers) (a : Answered Code (Posed Registers Mach
           machine = with-lent (last-writes caller (a .after .machine .lent)) (a .after .machine);
         };
       }
-  unfolding finish last-writes
+  unfolding finish last-writes clear-pending set-flag
   finish-live live = rw live
 
 -- ---- a call
