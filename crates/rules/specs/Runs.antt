@@ -30,8 +30,8 @@ unfoldable pub pool : Lent → ℕ
 pool m = count (λ b. eqb (owner b) pool-free || eqb (owner b) pool-in-use) (m .table)
 
 -- outcome 0, and RAX asked for call n
-unfoldable pub handled-as : ℕ → ℕ → Registers → Machine → Bool
-handled-as n caller g m = eqb (outcome-number (called caller g m .answer)) 0 && eqb (protocol g) 0 && eqb (call-number g) n
+unfoldable pub handled-as : ℕ → Registers → Outcome → Bool
+handled-as n g outcome = eqb (outcome-number outcome) 0 && eqb (protocol g) 0 && eqb (call-number g) n
 
 -- the head passes every check of `list-call`
 unfoldable pub head-accepted : ℕ → ℕ → Lent → Bool
@@ -44,25 +44,27 @@ pages-listed rcx m (k ∷ ks) = entry-pages (list-entry k rcx m) + pages-listed 
 
 -- ""Taken in" counts the pages of Deposit entries that the index passed": from the index before to the index after, read on entry. Where the call was refused
 -- before its list was looked at, the index is as it was: the last writes are in bytes 0 and 1 of a page, the index in bytes 2 and 3 of a multiple of 8
+unfoldable pub taken-by : ℕ → Registers → Lent → Answered Outcome (Posed Registers Machine) → ℕ
+taken-by caller g m a =
+    let from : ℕ = list-next (g .rcx) m in
+    let to : ℕ = list-next (g .rcx) (a .after .machine .lent) in
+    cond (handled-as 4 g (a .answer) && head-accepted (vcpu m caller .vmpl) (g .rcx) m) (pages-listed (g .rcx) m (range from (to - from))) 0
+
+-- ""given back" the counts that Withdraw wrote": the two bytes at RCX on exit, for code 0; in a sound machine the last writes do not touch them
+unfoldable pub given-by : Registers → Answered Outcome (Posed Registers Machine) → ℕ
+given-by g a = cond (handled-as 5 g (a .answer) && eqb (a .after .registers .rax) 0) (in-list 2 0 (g .rcx) (a .after .machine .lent)) 0
+
+-- either, of any step; and summed over a run
 unfoldable pub taken-in : Step → Machine → ℕ
-taken-in (calls caller g) m =
-    let from : ℕ = list-next (g .rcx) (m .lent) in
-    let to : ℕ = list-next (g .rcx) (called caller g m .after .machine .lent) in
-    cond (handled-as 4 caller g m && head-accepted (vcpu (m .lent) caller .vmpl) (g .rcx) (m .lent))
-    (pages-listed (g .rcx) (m .lent) (range from (to - from)))
-    0
+taken-in (calls caller g) m = taken-by caller g (m .lent) (called caller g m)
 taken-in (stores c p offset bytes) m = 0
 taken-in (marks i value) m = 0
 
--- ""given back" the counts that Withdraw wrote": the two bytes at RCX on exit, for code 0; in a sound machine the last writes do not touch them
 unfoldable pub given-back : Step → Machine → ℕ
-given-back (calls caller g) m =
-    let s : Posed Registers Machine = called caller g m .after in
-    cond (handled-as 5 caller g m && eqb (s .registers .rax) 0) (in-list 2 0 (g .rcx) (s .machine .lent)) 0
+given-back (calls caller g) m = given-by g (called caller g m)
 given-back (stores c p offset bytes) m = 0
 given-back (marks i value) m = 0
 
--- either count, summed over a run
 unfoldable pub over-run : (Step → Machine → ℕ) → List Step → Machine → ℕ
 over-run counted [] m = 0
 over-run counted (s ∷ ss) m = counted s m + over-run counted ss (step s m)

@@ -18,7 +18,7 @@ use Rattle.rules.specs.Calls.{remap, create, delete, withdraw, query, vtom}
 use Rattle.rules.specs.Call.{Posed, bad-machine, no-call, protocol, call-number, on-lent, on-rcx, dispatch, handle, finish, call}
 use Rattle.rules.specs.Runs.{called}
 use Rattle.laws.proofs.Ranges.{by-test}
-use Rattle.safety.specs.Statements.{unreal}
+use Rattle.safety.specs.Terms.{unreal}
 
 -- a test, and what it decides between
 pub on-test : {A : Type 0} (P : A → Type 0) (t : Bool) (x y : A) → (t ≡ true → P x) → (t ≡ false → P y) → P (cond t x y)

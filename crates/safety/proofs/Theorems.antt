@@ -7,7 +7,7 @@ use Rattle.rules.specs.Machine.{Lent, is-live, record-at}
 use Rattle.rules.specs.Runs.{run-steps}
 use Rattle.safety.specs.Statements.{Launched-sound, Stays-sound, Sealed, Monitor-kept, Vmsa-kept, Pool-kept, Step-counted, Run-counted}
 use Rattle.safety.specs.Statements.{Counted-from-launch, At-most, At-most-twelve, All-come-back, Unreal-changes-nothing, Unreal-changes-no-byte}
-use Rattle.safety.specs.Statements.{Gone-leaves, Refusal-leaves, Validated-once, Second-validation-refused, Validated-pages-zero, Carried-out}
+use Rattle.safety.specs.Statements.{On-machines, Gone-law, Refusal-law, Validated-once, Second-validation-refused, Validated-pages-zero, Carried-out}
 use Rattle.safety.specs.Statements.{Launched-on-bytes, Runs-on-bytes}
 use Rattle.safety.proofs.Sound.Facts.{Sound}
 use Rattle.safety.proofs.Sound.OnePage.{write-sound}
@@ -108,11 +108,11 @@ pub unreal-changes-no-byte : Unreal-changes-no-byte
 unfolding Unreal-changes-no-byte
 unreal-changes-no-byte = Unreal.unreal-changes-no-byte
 
-pub gone-leaves : Gone-leaves
+pub gone-leaves : On-machines Gone-law
 gone-leaves = Gone.gone-leaves
 
 -- 8
-pub refusal-leaves : Refusal-leaves
+pub refusal-leaves : On-machines Refusal-law
 refusal-leaves = Refusal.refusal-leaves
 
 -- 9

@@ -1,38 +1,69 @@
--- What is proved of the definitions: demands 1 and 3, each statement under its number. This file can be read without the proofs, which are in proofs/;
--- proofs/Theorems.antt has one for each statement.
+-- What is proved of the definitions: demands 1 and 3. Demand 3 comes first, whole and about the bytes that a host holds; then its parts, on machines, each under its
+-- number; then what holds of every call, on machines and on bytes, sound or not. The words are in Terms. This file can be read without the proofs, which are
+-- in proofs/; proofs/Theorems.antt has one for each statement.
 use mathlib.Core.Path.{_≡_}
 use mathlib.Core.Logic.{_⊎_}
-use mathlib.Core.Bool.{Bool, true, false, cond, not, _&&_, _||_}
+use mathlib.Core.Bool.{true, false}
 use mathlib.Core.List.{List, [], _∷_}
-use Prim.Native.Nat.{ℕ, zero, suc, _+_, _-_, _*_, _/_, _<_, _≤_}
-use lib.Dec.{ltb, eqb}
+use Prim.Native.Nat.{ℕ, suc, _+_, _-_, _<_, _≤_}
 use lib.ListN.{getD}
-use Rattle.rules.specs.Words.{page-size, records, records-without-pool, large, between, multiple, bits, bit, without-bit, little, number, every, exists}
-use Rattle.rules.specs.Words.{count}
+use Rattle.rules.specs.Words.{records, records-without-pool, between, bit}
 use Rattle.rules.specs.declared.Registers.{Registers}
 use Rattle.rules.specs.declared.Plan.{Plan}
-use Rattle.rules.specs.declared.Outcome.{Outcome}
-use Rattle.rules.specs.declared.Outcome.the-variants.{Handled, NoCall, Gone, BadMachine}
-use Rattle.rules.specs.declared.Code.{Code}
-use Rattle.rules.specs.declared.Code.the-variants.{Incomplete, Address, Parameter, SizeMismatch, NoChange}
-use Rattle.rules.specs.declared.Entry.the-variants.{Reads, Unread}
+use Rattle.rules.specs.declared.Outcome.the-variants.{Handled, Gone}
+use Rattle.rules.specs.declared.Entry.the-variants.{Reads}
 use Rattle.rules.specs.declared.ListCall.{ListCall}
-use Rattle.rules.specs.declared.ListCall.the-variants.{Pvalidate, Deposit}
+use Rattle.rules.specs.declared.ListCall.the-variants.{Pvalidate}
 use Rattle.rules.specs.declared.Wish.{Wish}
 use Rattle.rules.specs.declared.Launched.the-variants.{Made}
-use Rattle.rules.specs.Answers.{outcome-number, code-number, verdict-number}
-use Rattle.rules.specs.Steps.{store, mark}
-use Rattle.rules.specs.Machine.{Lent, Machine, _▷_, below, page-of, page-at, written, owner, plain, monitor, pool-free, pool-in-use, vmsa-area, valid, permitted}
-use Rattle.rules.specs.Machine.{write, table-byte, owned-by, vcpu, startup}
+use Rattle.rules.specs.Answers.{launched-number}
+use Rattle.rules.specs.Machine.{Lent, Machine, page-at, owner, monitor, vmsa-area, permitted, valid, table-byte, vcpu}
 use Rattle.rules.specs.Launch.{launch}
 use Rattle.rules.specs.Sound.{table-sized, pages-sized, sound}
-use Rattle.rules.specs.Lists.{list-count, list-next, list-entry, covered, read-entry, carry-out-all, store-index, run, run-within}
-use Rattle.rules.specs.Calls.{any-free, is-free}
-use Rattle.rules.specs.Call.{Posed, with-rax, protocol, call-number, pending}
-use Rattle.rules.specs.Flat.{Buffers, parted, sound-bytes, launch-bytes, store-bytes, mark-bytes, call-bytes, door-bytes}
-use Rattle.rules.specs.Runs.{Step, calls, stores, marks, called, step, run-steps, pool, taken-in, given-back, over-run, head-accepted}
+use Rattle.rules.specs.Lists.{list-next, list-entry, read-entry, carry-out-all, store-index, run}
+use Rattle.rules.specs.Call.{Posed}
+use Rattle.rules.specs.Flat.{Buffers, parted, well-sized, sound-bytes, launch-bytes, store-bytes, mark-bytes, call-bytes, door-bytes}
+use Rattle.rules.specs.Runs.{Step, calls, stores, marks, called, step, run-steps, pool, handled-as, head-accepted, taken-in, given-back, over-run}
+use Rattle.safety.specs.Terms.{Back, deletes, gives-back, all-succeed, Same-page, Kept-page, in-pool, in-use, rounds, withdrawals, Recovered}
+use Rattle.safety.specs.Terms.{unreal, Left-by-gone, refused, Left-by-refusal, covers, covers-valid, second-code, Invalidated-before, Confined}
+use Rattle.safety.specs.Terms.{bytes-back, Act, act, acts, act-deletes, act-gives-back, act-taken-in, act-given-back, over-acts, all-acts-succeed}
+use Rattle.safety.specs.Terms.{withdrawal-acts}
+use Rattle.safety.specs.Sentences.{Sound-machine}
 
--- ---- From launch, and from any sound machine
+-- ---- Demand 3, of what a host holds
+
+-- "no step changes a page of owner 2, ever; of owner 5, unless it is deleted; of owner 3 or 4, unless it is given back", where 3 and 4 may turn into each other
+pub record Kept-by (a : Act) (b : Buffers) : Type 0 where
+  pub monitor-pages : (p : ℕ) → owner (table-byte (parted b) p) ≡ monitor → Kept-page p (parted b) (parted (act a b))
+  pub vmsa-pages : (p : ℕ) → owner (table-byte (parted b) p) ≡ vmsa-area → act-deletes p a b ≡ false → Kept-page p (parted b) (parted (act a b))
+  pub pool-pages : (p : ℕ) → in-pool (table-byte (parted b) p) ≡ true → act-gives-back p a b ≡ false
+      → Same-page p (parted b) (parted (act a b)) × (in-pool (table-byte (parted (act a b)) p) ≡ true)
+
+-- what holds of the bytes after these acts: sound; sealed, no VMPL has any permission on a page of owner 2 to 5; kept by any next act; every page of the pool
+-- accounted for; at most twelve in use; and the free ones all come back, in as many rounds as they need
+pub record Holds (start : Buffers) (done : List Act) : Type 0 where
+  pub sound : sound-bytes (acts done start) ≡ true
+  pub sealed : (p c : ℕ) → between 2 5 (owner (table-byte (parted (acts done start)) p)) ≡ true
+      → permitted c (table-byte (parted (acts done start)) p) ≡ false
+  pub kept : (next : Act) → Kept-by next (acts done start)
+  pub counted : pool (parted (acts done start)) + over-acts act-given-back done start ≡ over-acts act-taken-in done start
+  pub at-most-twelve : in-use (parted (acts done start)) ≤ 12
+  pub come-back : (others : ℕ → Registers) →
+      let now = acts done start in
+      let ways = withdrawal-acts (rounds (parted now)) others (parted now) in
+      Recovered (all-acts-succeed ways now) (over-acts act-given-back ways now) (parted now) (parted (acts ways now))
+
+-- for any buffers and numbers lent to launch, once it answers 0, after any run of calls, stores and marks
+unfoldable pub Demand-3 : Type 0
+Demand-3 =
+    (n : ℕ) (plan : Plan) (lent : Buffers) → launched-number (launch-bytes n plan lent .answer) ≡ 0
+    → (done : List Act) → Holds (launch-bytes n plan lent .after) done
+
+-- `sound` by its sentences: they hold exactly when it says true
+unfoldable pub Sound-means : Type 0
+Sound-means = (m : Lent) → (sound m ≡ true → Sound-machine m) × (Sound-machine m → sound m ≡ true)
+
+-- ---- Its parts: from launch, and from any sound machine
 
 -- 0. Launched: a successful launch, on any memory of right size, gives a sound machine
 unfoldable pub Launched-sound : Type 0
@@ -50,42 +81,7 @@ Sealed =
     (ss : List Step) (m : Machine) → sound (m .lent) ≡ true
     → (p c : ℕ) → between 2 5 (owner (table-byte (run-steps ss m .lent) p)) ≡ true → permitted c (table-byte (run-steps ss m .lent) p) ≡ false
 
--- 3. Kept. `deletes`: the step is a Delete with outcome 2, or outcome 0 and code 0, on this very VMSA. `gives-back`: it is a Withdraw that gave back this
--- very page, which is plain after it
-unfoldable pub done-well : Outcome → Registers → Bool
-done-well Handled after = eqb (after .rax) 0
-done-well NoCall after = false
-done-well Gone after = true
-done-well BadMachine after = false
-
-unfoldable pub asks-for : ℕ → Registers → Bool
-asks-for n g = eqb (protocol g) 0 && eqb (call-number g) n
-
-unfoldable pub deletes : ℕ → Step → Machine → Bool
-deletes p (calls caller g) m =
-    asks-for 3 g && eqb (page-of (g .rcx)) p && done-well (called caller g m .answer) (called caller g m .after .registers)
-deletes p (stores c q offset bytes) m = false
-deletes p (marks i value) m = false
-
-unfoldable pub gives-back : ℕ → Step → Machine → Bool
-gives-back p (calls caller g) m =
-    asks-for 5 g && owned-by plain (called caller g m .after .machine .lent) p
-    && done-well (called caller g m .answer) (called caller g m .after .registers)
-gives-back p (stores c q offset bytes) m = false
-gives-back p (marks i value) m = false
-
--- a page's bytes, validity and permissions are as they were
-pub record Same-page (p : ℕ) (m after : Lent) : Type 0 where
-  pub bytes : page-at after p ≡ page-at m p
-  pub validity : valid (table-byte after p) ≡ valid (table-byte m p)
-  pub permissions : (c : ℕ) → permitted c (table-byte after p) ≡ permitted c (table-byte m p)
-
--- and so is its owner
-pub record Kept-page (p : ℕ) (m after : Lent) : Type 0 where
-  pub same : Same-page p m after
-  pub owned : owner (table-byte after p) ≡ owner (table-byte m p)
-
--- "no step changes a page of owner 2, ever; of owner 5, unless .. ; of owner 3 or 4, unless ..": 3 and 4 may turn into each other
+-- 3. Kept: a step leaves the monitor's pages; VMSA pages, unless it deletes that very one; pages of the pool, unless it gives back that very one
 unfoldable pub Monitor-kept : Type 0
 Monitor-kept =
     (s : Step) (m : Machine) → sound (m .lent) ≡ true → (p : ℕ) → owner (table-byte (m .lent) p) ≡ monitor
@@ -95,9 +91,6 @@ unfoldable pub Vmsa-kept : Type 0
 Vmsa-kept =
     (s : Step) (m : Machine) → sound (m .lent) ≡ true → (p : ℕ) → owner (table-byte (m .lent) p) ≡ vmsa-area → deletes p s m ≡ false
     → Kept-page p (m .lent) (step s m .lent)
-
-unfoldable pub in-pool : ℕ → Bool
-in-pool b = eqb (owner b) pool-free || eqb (owner b) pool-in-use
 
 unfoldable pub Pool-kept : Type 0
 Pool-kept =
@@ -120,64 +113,29 @@ Counted-from-launch =
     → pool (run-steps ss (launch plan m .after) .lent) + over-run given-back ss (launch plan m .after) ≡ over-run taken-in ss (launch plan m .after)
 
 -- 5. At most: after any run, the pages in use of the pool are no more than the records that need one
-unfoldable pub in-use : Lent → ℕ
-in-use m = count (λ b. eqb (owner b) pool-in-use) (m .table)
-
 unfoldable pub At-most : Type 0
 At-most = (ss : List Step) (m : Machine) → sound (m .lent) ≡ true → in-use (run-steps ss m .lent) ≤ records - records-without-pool
 
 unfoldable pub At-most-twelve : Type 0
 At-most-twelve = (ss : List Step) (m : Machine) → sound (m .lent) ≡ true → in-use (run-steps ss m .lent) ≤ 12
 
--- 6. All come back: so many rounds, each a store of the byte 1 to offset 0 of the startup's calling page by the startup's VMPL, and then a call by record 0
--- with RAX 5, RCX = 4,096 x calling page + 8, exit reason 0x403 and any other registers. A list there has room for (4,096 - 8 - 8) / 8 = 510 pages
-unfoldable pub free : Lent → ℕ
-free m = count is-free (m .table)
-
-unfoldable pub rounds : Lent → ℕ
-rounds m = (free m + 509) / 510
-
-unfoldable pub asking : Lent → Registers → Registers
-asking m g =
-    record { rax = 5; rcx = page-size * startup m .calling + 8; rdx = g .rdx; r8 = g .r8; r9 = g .r9; reason = 0x403 }
-
-unfoldable pub withdrawals : ℕ → (ℕ → Registers) → Lent → List Step
-withdrawals zero others m = []
-withdrawals (suc n) others m =
-    stores (startup m .vmpl) (startup m .calling) 0 (1 ∷ []) ∷ calls 0 (asking m (others n)) ∷ withdrawals n others m
-
--- every store is done, and every call returns success
-unfoldable pub succeeds : Step → Machine → Bool
-succeeds (calls caller g) m = eqb (outcome-number (called caller g m .answer)) 0 && eqb (called caller g m .after .registers .rax) 0
-succeeds (stores c p offset bytes) m = eqb (verdict-number (store c p offset bytes (m .lent) .answer)) 0
-succeeds (marks i value) m = eqb (verdict-number (mark i value (m .lent) .answer)) 0
-
-unfoldable pub all-succeed : List Step → Machine → Bool
-all-succeed [] m = true
-all-succeed (s ∷ ss) m = succeeds s m && all-succeed ss (step s m)
-
-pub record Recovered (ss : List Step) (m : Machine) : Type 0 where
-  pub succeeded : all-succeed ss m ≡ true
-  pub counted : over-run given-back ss m ≡ free (m .lent)
-  pub none-free : free (run-steps ss m .lent) ≡ 0
-  pub in-use-kept : (p : ℕ) → owner (table-byte (m .lent) p) ≡ pool-in-use → Kept-page p (m .lent) (run-steps ss m .lent)
-  pub given : (p : ℕ) → owner (table-byte (m .lent) p) ≡ pool-free
-      → (owner (table-byte (run-steps ss m .lent) p) ≡ plain) × (valid (table-byte (run-steps ss m .lent) p) ≡ true)
-      × (permitted (startup (m .lent) .vmpl) (table-byte (run-steps ss m .lent) p) ≡ true)
-
+-- 6. All come back: in so many rounds, each a store and a Withdraw by the startup vCPU
 unfoldable pub All-come-back : Type 0
 All-come-back =
-    (m : Machine) (others : ℕ → Registers) → sound (m .lent) ≡ true → Recovered (withdrawals (rounds (m .lent)) others (m .lent)) m
+    (m : Machine) (others : ℕ → Registers) → sound (m .lent) ≡ true →
+    let ways = withdrawals (rounds (m .lent)) others (m .lent) in
+    Recovered (all-succeed ways m) (over-run given-back ways m) (m .lent) (run-steps ways m .lent)
 
--- ---- Of every input whatever, wrong sizes and unsound machines included
+-- ---- Of every call whatever, wrong sizes and unsound machines included. A law says something of the caller, its registers, the machine on entry, and what
+-- the call came back with; it holds of the definition on machines, and of the one on bytes that the code's promise cites
+
+unfoldable pub On-machines : (ℕ → Registers → Lent → Back → Type 0) → Type 0
+On-machines law = (caller : ℕ) (g : Registers) (m : Machine) → law caller g (m .lent) (called caller g m)
+
+unfoldable pub On-bytes : (ℕ → Registers → Lent → Back → Type 0) → Type 0
+On-bytes law = (caller : ℕ) (s : Posed Registers Buffers) → law caller (s .registers) (parted (s .machine)) (bytes-back caller s)
 
 -- 7. No call, bad machine: everything as it was; with the registers as a record, and as bytes, which are below 256
-unfoldable pub unreal : Outcome → Bool
-unreal Handled = false
-unreal NoCall = true
-unreal Gone = false
-unreal BadMachine = true
-
 unfoldable pub Unreal-changes-nothing : Type 0
 Unreal-changes-nothing =
     (caller : ℕ) (s : Posed Registers Buffers) → unreal (call-bytes caller s .answer) ≡ true → call-bytes caller s .after ≡ s
@@ -187,80 +145,30 @@ Unreal-changes-no-byte =
     (caller : ℕ) (s : Posed (List ℕ) Buffers) → ((k : ℕ) → getD (s .registers) k 0 < 256) → unreal (door-bytes caller s .answer) ≡ true
     → door-bytes caller s .after ≡ s
 
--- EFER bit 12 cleared in page p
-unfoldable pub svme-cleared : ℕ → List (List ℕ) → List (List ℕ)
-svme-cleared p pages = written p 0xD0 (little 8 (without-bit 12 (number 8 (getD pages p []) 0xD0))) pages
+-- Gone: all that is left is settled
+unfoldable pub Gone-law : ℕ → Registers → Lent → Back → Type 0
+Gone-law caller g m a = a .answer ≡ Gone → Left-by-gone caller g m (a .after)
 
--- Gone: registers and the caller's pending byte as they were; memory changes only in EFER bit 12 of the deleted VMSA and byte 1 of record 0's calling page
-pub record Left-by-gone (caller : ℕ) (g : Registers) (m : Lent) (after : Posed Registers Machine) : Type 0 where
-  pub registers : after .registers ≡ g
-  pub pending-byte : getD (page-at (after .machine .lent) (vcpu m caller .calling)) 0 0 ≡ pending caller m
-  pub memory : after .machine .lent .memory
-      ≡ written (startup m .calling) 1 (cond (any-free (after .machine .lent)) 1 0 ∷ []) (svme-cleared (vcpu m caller .vmsa) (m .memory))
+-- 8. Refused
+unfoldable pub Refusal-law : ℕ → Registers → Lent → Back → Type 0
+Refusal-law caller g m a = a .answer ≡ Handled → refused (a .after .registers) ≡ true → Left-by-refusal caller g m (a .after)
 
-unfoldable pub Gone-leaves : Type 0
-Gone-leaves =
-    (caller : ℕ) (g : Registers) (m : Machine) → called caller g m .answer ≡ Gone → Left-by-gone caller g (m .lent) (called caller g m .after)
+-- 9. No second validation, the old monitor's fault: a page was validated twice, and the host slid an old page back. Of whole calls: page p was valid on entry,
+-- and entry k, one that the index has passed, covers it with wish 1. Then the entry has bit 3, or an earlier one of the same call made the page invalid
+unfoldable pub Validation-law : ℕ → Registers → Lent → Back → Type 0
+Validation-law caller g m a =
+    handled-as 1 g (a .answer) ≡ true → head-accepted (vcpu m caller .vmpl) (g .rcx) m ≡ true
+    → (k p : ℕ) → list-next (g .rcx) m ≤ k → k < list-next (g .rcx) (a .after .machine .lent)
+    → bit 2 (list-entry k (g .rcx) m) ≡ true → covers (list-entry k (g .rcx) m) p ≡ true → valid (table-byte m p) ≡ true
+    → (bit 3 (list-entry k (g .rcx) m) ≡ true) ⊎ Invalidated-before k p (g .rcx) m
 
--- 8. Refused: outcome 0 and a code that is neither 0 nor 0x80000000
-unfoldable pub refused : Registers → Bool
-refused after = not (eqb (after .rax) 0) && not (eqb (after .rax) 0x80000000)
-
--- the last writes: byte 0 of the caller's calling page becomes 0, then byte 1 of record 0's the flag
-unfoldable pub last-writes : ℕ → Lent → Lent
-last-writes caller m = m ▷ write (vcpu m caller .calling) 0 (0 ∷ []) ▷ (λ now. write (startup now .calling) 1 (cond (any-free now) 1 0 ∷ []) now)
-
-unfoldable pub number-of-list-call : ListCall → ℕ
-number-of-list-call Pvalidate = 1
-number-of-list-call Deposit = 4
-
--- call 1 or 4 refused at an entry: the head was accepted, the run with budget entry - next was well and left entries, and left the machine `before`, with
--- `entry` stored in the index. There the entry reads as a refusal, whose code the call has told
-pub record At-entry (caller : ℕ) (g : Registers) (m : Lent) (after : Posed Registers Machine) : Type 0 where
-  pub call : ListCall
-  pub asked : asks-for (number-of-list-call call) g ≡ true
-  pub head : head-accepted (vcpu m caller .vmpl) (g .rcx) m ≡ true
-  pub entry : ℕ
-  pub from : list-next (g .rcx) m ≤ entry
-  pub below : entry < list-count (g .rcx) m
-  pub before : Lent
-  pub earlier : run-within (entry - list-next (g .rcx) m) call caller (g .rcx) m ≡ record { answer = Incomplete; after = before }
-  pub code : Code
-  pub unread : read-entry call caller (g .rcx) (list-entry entry (g .rcx) m) before ≡ Unread code
-  pub told : after .registers .rax ≡ code-number code
-  pub reached : after .machine .lent ≡ last-writes caller before
-
-pub record Left-by-refusal (caller : ℕ) (g : Registers) (m : Lent) (after : Posed Registers Machine) : Type 0 where
-  pub registers : after .registers ≡ with-rax (after .registers .rax) g
-  pub sheet : after .machine .lent .sheet ≡ m .sheet
-  pub lent : (after .machine .lent ≡ last-writes caller m) ⊎ At-entry caller g m after
-
-unfoldable pub Refusal-leaves : Type 0
-Refusal-leaves =
-    (caller : ℕ) (g : Registers) (m : Machine) → called caller g m .answer ≡ Handled → refused (called caller g m .after .registers) ≡ true
-    → Left-by-refusal caller g (m .lent) (called caller g m .after)
-
--- 9. No second validation. This is the fault that opened the lift: the old monitor validated a page twice, and the host slid an old page back.
--- For an entry with wish 1 and bit 3 clear: (a) if it is carried out, every covered page was invalid
-unfoldable pub covers-valid : ℕ → Lent → Bool
-covers-valid e m = exists (λ p. valid (table-byte m p)) (covered e)
-
+-- and of one entry with wish 1 and bit 3 clear: (a) if it is carried out, every covered page was invalid
 unfoldable pub Validated-once : Type 0
 Validated-once =
     (caller rcx e first n : ℕ) (wish : Wish) (m : Lent) → bit 2 e ≡ true → bit 3 e ≡ false → read-entry Pvalidate caller rcx e m ≡ Reads first n wish
     → covers-valid e m ≡ false
 
--- (b) if it covers a valid page it is refused, and itself changes no table byte and no memory but the index: with 0x80001010 exactly when it is well formed
--- and all covered pages are below N, plain, not the list's, and valid, else PARAMETER, ADDRESS or 0x80001006 in 01's order
-unfoldable pub second-code : ℕ → ℕ → Lent → Code
-second-code rcx e m =
-    let ill-formed : Bool =
-    ltb 1 (bits 1 0 e) || not (eqb (bits 11 4 e) 0) || eqb (bits 1 0 e) 1 && not (multiple large (bits 63 12 e)) in
-    let coverable : ℕ → Bool = λ p. below m p && owned-by plain m p && not (eqb p (page-of rcx)) in
-    cond ill-formed Parameter
-    (cond (not (every coverable (covered e))) Address
-    (cond (not (every (λ p. valid (table-byte m p)) (covered e))) SizeMismatch NoChange))
-
+-- (b) if it covers a valid page it is refused, and itself changes no table byte and no memory but the index
 unfoldable pub Second-validation-refused : Type 0
 Second-validation-refused =
     (caller rcx todo k : ℕ) (m : Lent) → bit 2 (list-entry k rcx m) ≡ true → bit 3 (list-entry k rcx m) ≡ false
@@ -271,15 +179,34 @@ Second-validation-refused =
 unfoldable pub Validated-pages-zero : Type 0
 Validated-pages-zero =
     (caller rcx e first n : ℕ) (wish : Wish) (m : Lent) → bit 2 e ≡ true → read-entry Pvalidate caller rcx e m ≡ Reads first n wish
-    → (p k : ℕ) → exists (eqb p) (covered e) ≡ true → getD (page-at (carry-out-all wish (vcpu m caller .vmpl) first n m) p) k 0 ≡ 0
+    → (p k : ℕ) → covers e p ≡ true → getD (page-at (carry-out-all wish (vcpu m caller .vmpl) first n m) p) k 0 ≡ 0
 
 unfoldable pub Carried-out : Type 0
 Carried-out =
     (call : ListCall) (caller rcx todo k first n : ℕ) (wish : Wish) (m : Lent) → read-entry call caller rcx (list-entry k rcx m) m ≡ Reads first n wish
     → run call caller rcx (suc todo) k m ≡ run call caller rcx todo (suc k) (carry-out-all wish (vcpu m caller .vmpl) first n m)
 
--- ---- On the lent bytes. The promises of the code speak of flat bytes, the statements above of machines; from any sound machine they are the same
+-- 10. Confined: a call by VMPL c gives no page a permission above c, makes no vCPU of a VMPL below c, and deletes none
+unfoldable pub Confinement-law : ℕ → Registers → Lent → Back → Type 0
+Confinement-law caller g m a = Confined (vcpu m caller .vmpl) m (a .after .machine .lent)
 
+-- ---- On the lent bytes. The promises of the code speak of flat bytes, the statements above of machines
+
+-- a call keeps the sizes of any machine of right size, sound or not
+unfoldable pub Sizes-kept : Type 0
+Sizes-kept =
+    (caller : ℕ) (g : Registers) (m : Machine) → table-sized (m .lent) ≡ true → pages-sized (m .lent) ≡ true →
+    let after = called caller g m .after .machine .lent in
+    (table-sized after ≡ true) × (pages-sized after ≡ true)
+
+-- so that on bytes of right size, sound or not, the call on bytes is the call on the machine that they are
+unfoldable pub Calls-on-bytes : Type 0
+Calls-on-bytes =
+    (caller : ℕ) (s : Posed Registers Buffers) → well-sized (s .machine) ≡ true
+    → bytes-back caller s ≡ called caller (s .registers) (record { lent = parted (s .machine) })
+
+-- a launch that is made on bytes gives a sound machine; and from any sound machine a run of steps on bytes is the run on machines, also for a caller that
+-- lends the registers as one record
 unfoldable pub step-bytes : Step → Buffers → Buffers
 step-bytes (calls caller g) b = call-bytes caller (record { registers = g; machine = b }) .after .machine
 step-bytes (stores c p offset bytes) b =

@@ -16,14 +16,16 @@ use Rattle.rules.specs.declared.ListCall.{ListCall}
 use Rattle.rules.specs.declared.ListCall.the-variants.{Pvalidate, Deposit}
 use Rattle.rules.specs.Answers.{Answered, outcome-number}
 use Rattle.rules.specs.Words.{record-size, entries-a-call}
-use Rattle.rules.specs.Machine.{Lent, Machine, with-lent, page-of, page-at, with-memory, written, write, zeros, is-live, record-at, vcpu, startup, efer}
+use Rattle.rules.specs.Machine.{Lent, Machine, with-lent, page-of, page-at, with-memory, written, write, zeros, put, change, table-byte, is-live, holds, record-at, vcpu}
+use Rattle.rules.specs.Machine.{startup, amend, efer}
 use Rattle.rules.specs.Lists.{list-call}
 use Rattle.rules.specs.Calls.{remap, free-record, new-record, create, Asked, asked, clear-svme, deleted, named-by, delete, withdraw, any-free}
 use Rattle.rules.specs.Call.{Posed, pending, on-lent, on-rcx, handle, set-flag, finish, call}
 use Rattle.laws.proofs.Ranges.{by-test}
 use Rattle.laws.proofs.Numbers.{getD-sets-elsewhere}
 use Rattle.laws.proofs.Records.{is-live-laid-out, is-live-remapped}
-use Rattle.safety.specs.Statements.{unreal, svme-cleared, Left-by-gone, Gone-leaves}
+use Rattle.safety.specs.Terms.{unreal, svme-cleared, changed-byte, left-table, Left-by-gone}
+use Rattle.safety.specs.Statements.{On-machines, Gone-law}
 use Rattle.safety.proofs.Effects.{remapped-sheet, created-sheet, deleted-sheet, deleted-memory, withdrawn-sheet}
 use Rattle.safety.proofs.Entries.{run-within-sheet}
 use Rattle.safety.proofs.Branches.{never, on-handle, called-real, real-call}
@@ -135,6 +137,11 @@ written-before p offset bytes pages q k h =
     (λ u. rw (set-out pages p (sets (getD pages p []) offset bytes) (ltb-false p (length pages) u)))))
     (λ t. rw (other-row pages p q (sets (getD pages p []) offset bytes) t))
 
+-- the table without the vCPU
+deleted-table : (caller : ℕ) (m : Lent) → deleted (vcpu m caller .vmpl) caller m .table ≡ left-table (vcpu m caller) (m .table)
+unfolding deleted left-table changed-byte change put table-byte amend clear-svme write with-memory holds vcpu
+deleted-table caller m = by-test (eqb (vcpu m caller .holding) 1) (λ t. rw t) (λ t. rw t)
+
 module _ (caller : ℕ) (g : Registers) (m : Lent) (other : caller ≡ 0 → ⊥) where
   abbrev after : Lent
   after = deleted (vcpu m caller .vmpl) caller m
@@ -153,8 +160,15 @@ module _ (caller : ℕ) (g : Registers) (m : Lent) (other : caller ≡ 0 → ⊥
   left-pending = rw left-memory (written-before _ 1 _ _ _ 0 (omega arith) ∙ written-before _ 0xD0 _ _ _ 0 (omega arith))
 
   left : Left-by-gone caller g m (record { registers = g; machine = record { lent = set-flag after } })
-  unfolding svme-cleared clear-svme write with-memory efer page-at
-  left = record { registers = refl; pending-byte = left-pending; memory = left-memory }
+  unfolding svme-cleared clear-svme write with-memory efer page-at set-flag
+  left =
+      record {
+        registers = refl;
+        pending-byte = left-pending;
+        memory = left-memory;
+        table = deleted-table caller m;
+        sheet = deleted-sheet (vcpu m caller .vmpl) caller m;
+      }
 
 -- a call that ends as gone
 ended : (caller : ℕ) (g : Registers) (m : Lent) (live : is-live (getD (m .sheet) caller []) ≡ true) (a : Answered Code (Posed Registers Machine))
@@ -167,8 +181,8 @@ ended caller g m live a (inr d) h =
     (λ t. rw (t, d .reached) (left caller g m (d .other)))
 
 -- what a caller that is gone leaves
-pub gone-leaves : Gone-leaves
-unfolding Gone-leaves unreal record-at
+pub gone-leaves : On-machines Gone-law
+unfolding On-machines Gone-law unreal record-at
 gone-leaves caller g m h =
     let real = real-call caller g m (ap unreal h) in
     let is = called-real caller g m (real .0) (real .1) in

@@ -24,7 +24,8 @@ use Rattle.rules.specs.Calls.{remap, create, delete, withdraw, configure, vtom}
 use Rattle.rules.specs.Call.{Posed, with-rax, with-rcx, on-lent, on-rcx, handle, clear-pending, set-flag, finish, call}
 use Rattle.rules.specs.Runs.{head-accepted}
 use Rattle.laws.proofs.Ranges.{by-test}
-use Rattle.safety.specs.Statements.{asks-for, unreal, refused, last-writes, number-of-list-call, At-entry, Left-by-refusal, Refusal-leaves}
+use Rattle.safety.specs.Terms.{asks-for, unreal, refused, last-writes, number-of-list-call, At-entry, Left-by-refusal}
+use Rattle.safety.specs.Statements.{On-machines, Refusal-law}
 use Rattle.safety.proofs.Branches.{on-test, on-refuse, never, on-handle, called-real, real-call}
 use Rattle.safety.proofs.Entries.{count-kept, entry-kept, read-stored, run-within-sheet}
 
@@ -35,9 +36,10 @@ refuses c = not (eqb (code-number c) 0) && not (eqb (code-number c) 0x80000000)
 -- ---- the run over a list
 
 -- a run that is refused stopped at an entry: the run up to there was well and left entries, and what it left is what is left now
-record Stopped (call : ListCall) (caller rcx k : ℕ) (m : Lent) (a : Answered Code Lent) : Type 0 where
+record Stopped (call : ListCall) (caller rcx todo k : ℕ) (m : Lent) (a : Answered Code Lent) : Type 0 where
   entry : ℕ
   from : k ≤ entry
+  within : entry < k + todo
   below : entry < list-count rcx m
   before : Lent
   earlier : run call caller rcx (entry - k) k m ≡ record { answer = Incomplete; after = before }
@@ -49,9 +51,9 @@ record Stopped (call : ListCall) (caller rcx k : ℕ) (m : Lent) (a : Answered C
 stopped-later : (x : Entry) (call : ListCall) (caller rcx todo k : ℕ) (m : Lent) → read-entry call caller rcx (list-entry k rcx m) m ≡ x
     → suc (k + todo) ≤ list-count rcx m
     → ((now : Lent) → suc k + todo ≤ list-count rcx now → refuses (run call caller rcx todo (suc k) now .answer) ≡ true
-    → Stopped call caller rcx (suc k) now (run call caller rcx todo (suc k) now))
+    → Stopped call caller rcx todo (suc k) now (run call caller rcx todo (suc k) now))
     → refuses (after-entry x caller rcx k (run call caller rcx todo (suc k)) m .answer) ≡ true
-    → Stopped call caller rcx k m (after-entry x caller rcx k (run call caller rcx todo (suc k)) m)
+    → Stopped call caller rcx (suc todo) k m (after-entry x caller rcx k (run call caller rcx todo (suc k)) m)
 unfolding run after-entry
 stopped-later (Reads first n wish) call caller rcx todo k m e b later h =
     let now : Lent = carry-out-all wish (vcpu m caller .vmpl) first n m in
@@ -61,6 +63,7 @@ stopped-later (Reads first n wish) call caller rcx todo k m e b later h =
     record {
       entry = s .entry;
       from = omega (arith, s .from);
+      within = omega (arith, s .within);
       below = omega (arith, count, s .below);
       before = s .before;
       earlier = rw (same, e) (s .earlier);
@@ -75,6 +78,7 @@ stopped-later (Unread code) call caller rcx todo k m e b later h =
     record {
       entry = k;
       from = omega arith;
+      within = omega arith;
       below = omega arith;
       before = store-index k rcx m;
       earlier = rw (none, less);
@@ -85,7 +89,7 @@ stopped-later (Unread code) call caller rcx todo k m e b later h =
     }
 
 run-stopped : (call : ListCall) (caller rcx todo k : ℕ) (m : Lent) → k + todo ≤ list-count rcx m → refuses (run call caller rcx todo k m .answer) ≡ true
-    → Stopped call caller rcx k m (run call caller rcx todo k m)
+    → Stopped call caller rcx todo k m (run call caller rcx todo k m)
 unfolding run refuses code-number
 run-stopped call caller rcx zero k m b h =
     by-test (ltb k (list-count rcx m)) (λ t. absurd (true≢false (sym (rw t at h)))) (λ t. absurd (true≢false (sym (rw t at h))))
@@ -96,10 +100,11 @@ run-stopped call caller rcx (suc todo) k m b h =
 -- ---- each call, before the last writes
 
 -- a list whose head was accepted, refused at an entry
-record Ran (call : ListCall) (caller rcx : ℕ) (m : Lent) (a : Answered Code Lent) : Type 0 where
+record Ran (budget : ℕ) (call : ListCall) (caller rcx : ℕ) (m : Lent) (a : Answered Code Lent) : Type 0 where
   head : head-accepted (vcpu m caller .vmpl) rcx m ≡ true
   entry : ℕ
   from : list-next rcx m ≤ entry
+  within : entry < list-next rcx m + budget
   below : entry < list-count rcx m
   before : Lent
   earlier : run-within (entry - list-next rcx m) call caller rcx m ≡ record { answer = Incomplete; after = before }
@@ -110,7 +115,7 @@ record Ran (call : ListCall) (caller rcx : ℕ) (m : Lent) (a : Answered Code Le
 
 within-stopped : (budget : ℕ) (call : ListCall) (caller rcx : ℕ) (m : Lent) → head-accepted (vcpu m caller .vmpl) rcx m ≡ true
     → list-next rcx m < list-count rcx m → refuses (run-within budget call caller rcx m .answer) ≡ true
-    → Ran call caller rcx m (run-within budget call caller rcx m)
+    → Ran budget call caller rcx m (run-within budget call caller rcx m)
 unfolding run-within
 within-stopped budget call caller rcx m head less h =
     let next = list-next rcx m in
@@ -121,6 +126,7 @@ within-stopped budget call caller rcx m head less h =
       head = head;
       entry = s .entry;
       from = s .from;
+      within = omega (arith, s .within);
       below = s .below;
       before = s .before;
       earlier = rw same (s .earlier);
@@ -177,10 +183,10 @@ module _ (m : Lent) where
   in-count rcx next = leb-false (list-count rcx m) (list-next rcx m) next
 
   list-moved : (budget : ℕ) (call : ListCall) (caller rcx : ℕ) → refuses (list-call budget call caller rcx m .answer) ≡ true
-      → (list-call budget call caller rcx m .after ≡ m) ⊎ Ran call caller rcx m (list-call budget call caller rcx m)
+      → (list-call budget call caller rcx m .after ≡ m) ⊎ Ran budget call caller rcx m (list-call budget call caller rcx m)
   unfolding list-call
   list-moved budget call caller rcx =
-      let Moved : Answered Code Lent → Type 0 = λ a. refuses (a .answer) ≡ true → (a .after ≡ m) ⊎ Ran call caller rcx m a in
+      let Moved : Answered Code Lent → Type 0 = λ a. refuses (a .answer) ≡ true → (a .after ≡ m) ⊎ Ran budget call caller rcx m a in
       on-refuse Moved m (not (multiple 8 rcx)) _ _ (λ t h. inl refl) (λ eight.
       on-refuse Moved m (bad-list-page (vcpu m caller .vmpl) rcx m) _ _ (λ t h. inl refl) (λ page.
       on-refuse Moved m (bad-count rcx m) _ _ (λ t h. inl refl) (λ count.
@@ -191,7 +197,7 @@ module _ (m : Lent) where
 record Entered (caller : ℕ) (g : Registers) (m : Lent) (a : Answered Code (Posed Registers Machine)) : Type 0 where
   call : ListCall
   asked : asks-for (number-of-list-call call) g ≡ true
-  ran : Ran call caller (g .rcx) m (record { answer = a .answer; after = a .after .machine .lent })
+  ran : Ran entries-a-call call caller (g .rcx) m (record { answer = a .answer; after = a .after .machine .lent })
 
 record Left (caller : ℕ) (g : Registers) (m : Lent) (a : Answered Code (Posed Registers Machine)) : Type 0 where
   registers : a .after .registers ≡ g
@@ -216,7 +222,7 @@ module _ (caller : ℕ) (g : Registers) (m : Machine) where
   unfolding on-lent with-lent
   on-list-leaves call asked h = record { registers = refl; lent = entered (list-moved (m .lent) entries-a-call call caller (g .rcx) h) }
     where
-      entered : {a : Answered Code Lent} → (a .after ≡ m .lent) ⊎ Ran call caller (g .rcx) (m .lent) a
+      entered : {a : Answered Code Lent} → (a .after ≡ m .lent) ⊎ Ran entries-a-call call caller (g .rcx) (m .lent) a
           → (a .after ≡ m .lent) ⊎ Entered caller g (m .lent) (on-lent a posed)
       entered (inl e) = inl e
       entered (inr r) = inr (record { call = call; asked = asked; ran = r })
@@ -259,6 +265,7 @@ module _ (caller : ℕ) (g : Registers) (m : Lent) (a : Answered Code (Posed Reg
   left-lent : (r : Registers) → r .rax ≡ code-number (a .answer) → (a .after .machine .lent ≡ m) ⊎ Entered caller g m a
       → (last-writes caller (a .after .machine .lent) ≡ last-writes caller m)
       ⊎ At-entry caller g m (record { registers = r; machine = record { lent = last-writes caller (a .after .machine .lent) } })
+  unfolding entries-a-call
   left-lent r rax (inl e) = inl (ap (last-writes caller) e)
   left-lent r rax (inr e) =
       inr (record {
@@ -267,6 +274,7 @@ module _ (caller : ℕ) (g : Registers) (m : Lent) (a : Answered Code (Posed Reg
         head = e .ran .head;
         entry = e .ran .entry;
         from = e .ran .from;
+        within = e .ran .within;
         below = e .ran .below;
         before = e .ran .before;
         earlier = e .ran .earlier;
@@ -292,8 +300,8 @@ ended caller g m a leaves handled h =
     (λ t. never Gone Handled refl (rw t at handled))
 
 -- what a refused call leaves
-pub refusal-leaves : Refusal-leaves
-unfolding Refusal-leaves unreal
+pub refusal-leaves : On-machines Refusal-law
+unfolding On-machines Refusal-law unreal
 refusal-leaves caller g m handled h =
     let real = real-call caller g m (ap unreal handled) in
     let is = called-real caller g m (real .0) (real .1) in

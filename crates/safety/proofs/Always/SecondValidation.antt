@@ -15,7 +15,8 @@ use Rattle.rules.specs.Lists.{entry-first, entry-pages, covered, malformed, cov
 use Rattle.rules.specs.Lists.{list-entry, reserved-bits, cleared, carry-out, carry-out-all, after-entry, run}
 use Rattle.laws.proofs.Ranges.{by-test}
 use Rattle.laws.proofs.Numbers.{zeros-at}
-use Rattle.safety.specs.Statements.{covers-valid, second-code, Validated-once, Second-validation-refused, Validated-pages-zero, Carried-out}
+use Rattle.safety.specs.Terms.{covers, covers-valid, second-code}
+use Rattle.safety.specs.Statements.{Validated-once, Second-validation-refused, Validated-pages-zero, Carried-out}
 use Rattle.safety.proofs.Small.{every-not-exists}
 use Rattle.safety.proofs.Entries.{wish-of, unread, covered-read, entry-read}
 
@@ -82,7 +83,7 @@ all-filled vmpl p (q ∷ qs) m h =
 
 -- (c) the pages that an entry validates are zero
 pub validated-pages-zero : Validated-pages-zero
-unfolding Validated-pages-zero page-at carry-out-all covered Zero wish-of
+unfolding Validated-pages-zero covers page-at carry-out-all covered Zero wish-of
 validated-pages-zero caller rcx e first n wish m two h p k x =
     let told = entry-read Pvalidate caller rcx e first n wish m h in
     let valid-wish : wish ≡ Valid = sym (told .wishes) ∙ rw two in

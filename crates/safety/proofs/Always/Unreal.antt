@@ -18,7 +18,8 @@ use Rattle.rules.specs.Flat.{Buffers, parted, well-sized, call-bytes, registers
 use Rattle.laws.proofs.Ranges.{by-test}
 use Rattle.laws.proofs.Numbers.{little-number}
 use Rattle.laws.proofs.FlatLaunch.{joined-parted}
-use Rattle.safety.specs.Statements.{unreal, Unreal-changes-nothing, Unreal-changes-no-byte}
+use Rattle.safety.specs.Terms.{unreal}
+use Rattle.safety.specs.Statements.{Unreal-changes-nothing, Unreal-changes-no-byte}
 
 -- what comes to its end is handled, or gone
 finish-real : (caller : ℕ) (before : Registers) (a : Answered Code (Posed Registers Machine)) → unreal (finish caller before a .answer) ≡ false

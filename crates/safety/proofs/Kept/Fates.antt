@@ -13,7 +13,7 @@ use Rattle.rules.specs.Machine.{record-at, vcpu}
 use Rattle.rules.specs.Calls.{remapped, remap, Asked, free-page, created, create, clear-svme, deleted, delete}
 use Rattle.laws.proofs.Ranges.{by-test}
 use Rattle.laws.proofs.TableByte.{owner-own, valid-own, permitted-own}
-use Rattle.safety.specs.Statements.{Same-page, in-pool}
+use Rattle.safety.specs.Terms.{Same-page, in-pool}
 use Rattle.safety.proofs.Effects.{owned-below, change-same}
 use Rattle.safety.proofs.Branches.{on-test}
 use Rattle.safety.proofs.Checks.{Remap-fit, past-remap, Create-fit, past-create, past-delete}

@@ -22,7 +22,8 @@ use Rattle.rules.specs.Calls.{withdrawn-pages, withdraw}
 use Rattle.rules.specs.Call.{Posed, protocol, call-number, bad-machine, no-call, on-lent, on-rcx, handle, with-rax, clear-pending, set-flag, finish, call}
 use Rattle.rules.specs.Runs.{Step, calls, stores, marks, called, step}
 use Rattle.laws.proofs.Ranges.{by-test}
-use Rattle.safety.specs.Statements.{done-well, asks-for, deletes, gives-back, Same-page, Kept-page, Monitor-kept, Vmsa-kept, Pool-kept, in-pool}
+use Rattle.safety.specs.Terms.{done-well, asks-for, deleted-by, given-back-by, deletes, gives-back, Same-page, Kept-page, in-pool}
+use Rattle.safety.specs.Statements.{Monitor-kept, Vmsa-kept, Pool-kept}
 use Rattle.safety.proofs.Branches.{Asks, past, on-handle, called-real}
 use Rattle.safety.proofs.Checks.{Caller, caller-of, given-free, given-plain}
 use Rattle.safety.proofs.Sound.Facts.{Sound, open-sound}
@@ -125,7 +126,7 @@ module _ (each : Each-sound) (owned : (m : Lent) → Sound m → (i : ℕ) → i
       excuse-told : Handled-excuse caller g m s p guard (handle caller (record { registers = g; machine = m }) .answer)
           (handle caller (record { registers = g; machine = m }) .after .machine .lent)
           → Excuse p (calls caller g) m
-      unfolding Handled-excuse Excuse deletes gives-back asks-for
+      unfolding Handled-excuse Excuse deletes gives-back deleted-by given-back-by asks-for
       excuse-told (done, inl (five, asks, here)) =
           let told = called-real caller g m good real in
           inl (

@@ -21,7 +21,7 @@ use Rattle.rules.specs.Call.{with-rax, bad-sheet, bad-machine, pending, no-call
 use Rattle.rules.specs.Call.{set-flag, finish, call}
 use Rattle.rules.specs.Runs.{called}
 use Rattle.laws.proofs.Ranges.{→absent}
-use Rattle.safety.specs.Statements.{asking}
+use Rattle.safety.specs.Terms.{asking}
 use Rattle.safety.proofs.Effects.{withdrawn-sheet}
 use Rattle.safety.proofs.Sound.Facts.{Sound}
 use Rattle.safety.proofs.Sound.Sizes.{sheet-length}

@@ -20,7 +20,7 @@ use Rattle.laws.proofs.Ranges.{by-test, each-same, rising→absent, length-plac
 use Rattle.laws.proofs.Counts.{table-byte-each, table-byte-each-other, count-each-down}
 use Rattle.laws.proofs.Numbers.{number-written, number-elsewhere}
 use Rattle.laws.proofs.TableByte.{byte·simp}
-use Rattle.safety.specs.Statements.{free}
+use Rattle.safety.specs.Terms.{free}
 use Rattle.safety.proofs.Effects.{same-startup, withdrawn-sheet, page-written, owned-below}
 use Rattle.safety.proofs.Checks.{withdrawn-rising, withdrawn-free, given-free}
 use Rattle.safety.proofs.Sound.Facts.{Sound}

@@ -15,7 +15,7 @@ use Rattle.rules.specs.Calls.{any-free}
 use Rattle.rules.specs.Call.{clear-pending}
 use Rattle.laws.proofs.Ranges.{by-test}
 use Rattle.laws.proofs.Numbers.{number-elsewhere, number-written}
-use Rattle.safety.specs.Statements.{last-writes}
+use Rattle.safety.specs.Terms.{last-writes}
 use Rattle.safety.proofs.Effects.{page-written, page-not-written, page-out}
 use Rattle.safety.proofs.Checks.{List-page}
 use Rattle.safety.proofs.Sound.Facts.{Sound}

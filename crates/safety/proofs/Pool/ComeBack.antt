@@ -15,10 +15,11 @@ use Rattle.rules.specs.Machine.{Lent, Machine, with-lent, with-memory, N, write
 use Rattle.rules.specs.Lists.{in-list}
 use Rattle.rules.specs.Calls.{is-free}
 use Rattle.rules.specs.Call.{with-rax}
-use Rattle.rules.specs.Runs.{Step, calls, stores, called, step, run-steps, handled-as, given-back, over-run}
+use Rattle.rules.specs.Runs.{Step, calls, stores, called, step, run-steps, handled-as, given-by, given-back, over-run}
 use Rattle.laws.proofs.Ranges.{→exists}
 use Rattle.laws.proofs.Counts.{exists-count}
-use Rattle.safety.specs.Statements.{Kept-page, free, rounds, asking, withdrawals, succeeds, all-succeed, All-come-back}
+use Rattle.safety.specs.Terms.{Kept-page, free, rounds, asking, withdrawals, succeeded-by, succeeds, all-succeed}
+use Rattle.safety.specs.Statements.{All-come-back}
 use Rattle.safety.proofs.Effects.{same-startup}
 use Rattle.safety.proofs.Sound.Facts.{Sound, open-sound}
 use Rattle.safety.proofs.Sound.Rows.{startup-lives}
@@ -117,11 +118,11 @@ module _ (owned : (m : Lent) → Sound m → (i : ℕ) → i < records → is-li
       call-step = ap (λ a. a .after .machine) call-told
 
       call-succeeds : succeeds asks (record { lent = waiting m }) ≡ true
-      unfolding succeeds outcome-number with-rax
+      unfolding succeeds succeeded-by outcome-number with-rax
       call-succeeds = rw call-told
 
       call-gives : given-back asks (record { lent = waiting m }) ≡ in-list 2 0 (page-size * startup m .calling + 8) (ended (waiting m))
-      unfolding given-back handled-as outcome-number with-rax asking
+      unfolding given-back given-by handled-as outcome-number with-rax asking
       call-gives = rw (call-told, asks-withdraw m g .0, asks-withdraw m g .1)
 
       -- the pages that are given back are free no more

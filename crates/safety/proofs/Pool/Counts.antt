@@ -13,7 +13,7 @@ use Rattle.rules.specs.Machine.{Lent, N, owner, pool-free, pool-in-use, table-b
 use Rattle.rules.specs.Runs.{pool}
 use Rattle.laws.proofs.Ranges.{by-test}
 use Rattle.laws.proofs.Counts.{one, count-set}
-use Rattle.safety.specs.Statements.{in-pool}
+use Rattle.safety.specs.Terms.{in-pool}
 
 -- an owner of the pool's pages
 unfoldable pub pooled : ℕ → Bool

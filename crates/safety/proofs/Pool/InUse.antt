@@ -14,7 +14,7 @@ use Rattle.rules.specs.Machine.{Lent, N, owner, pool-in-use, table-byte, fields
 use Rattle.rules.specs.Sound.{claim, claims, agrees, sound}
 use Rattle.laws.proofs.Ranges.{by-test, exists-append, rising-range, rising→outside}
 use Rattle.laws.proofs.Counts.{one, one-le, count-cons, count-none}
-use Rattle.safety.specs.Statements.{in-use}
+use Rattle.safety.specs.Terms.{in-use}
 use Rattle.safety.proofs.Small.{implied}
 use Rattle.safety.proofs.Sound.Facts.{open-sound}
 use Rattle.safety.proofs.Sound.Sizes.{sheet-length}

@@ -20,7 +20,7 @@ use Rattle.rules.specs.Runs.{pool, pages-listed}
 use Rattle.laws.proofs.Ranges.{by-test, each-same}
 use Rattle.laws.proofs.Counts.{count-range-up}
 use Rattle.laws.proofs.TableByte.{byte·simp, owner-own}
-use Rattle.safety.specs.Statements.{in-pool}
+use Rattle.safety.specs.Terms.{in-pool}
 use Rattle.safety.proofs.Effects.{carry-out-table, entry-sheet}
 use Rattle.safety.proofs.Entries.{wish-of, fits-plain, Read, entry-read, within-keeps}
 use Rattle.safety.proofs.Checks.{past-list}

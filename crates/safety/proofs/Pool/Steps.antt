@@ -21,9 +21,9 @@ use Rattle.rules.specs.Sound.{sound}
 use Rattle.rules.specs.Lists.{bad-list-page, in-list, list-count, list-next, store-index, bad-count, bad-next, run-within, list-call}
 use Rattle.rules.specs.Calls.{withdrawn-pages, withdrawn, withdraw}
 use Rattle.rules.specs.Call.{Posed, with-rax, bad-machine, no-call, protocol, call-number, on-lent, on-rcx, handle, clear-pending, set-flag, finish, call}
-use Rattle.rules.specs.Runs.{Step, calls, stores, marks, called, step, pool, handled-as, head-accepted, pages-listed, taken-in, given-back}
+use Rattle.rules.specs.Runs.{Step, calls, stores, marks, called, step, pool, handled-as, taken-by, given-by, head-accepted, pages-listed, taken-in, given-back}
 use Rattle.laws.proofs.Ranges.{by-test, or-false}
-use Rattle.safety.specs.Statements.{last-writes}
+use Rattle.safety.specs.Terms.{last-writes}
 use Rattle.safety.proofs.Effects.{withdrawn-sheet}
 use Rattle.safety.proofs.Branches.{Asks, on-handle, called-real}
 use Rattle.safety.proofs.Checks.{Caller, caller-of, List-page, list-page}
@@ -64,23 +64,23 @@ unfoldable Counted : Step → Machine → Type 0
 Counted s m = pool (step s m .lent) + given-back s m ≡ pool (m .lent) + taken-in s m
 
 module _ (caller : ℕ) (g : Registers) (m : Machine) where
-  taken-none : handled-as 4 caller g m ≡ false → taken-in (calls caller g) m ≡ 0
-  unfolding taken-in
+  taken-none : handled-as 4 g (called caller g m .answer) ≡ false → taken-in (calls caller g) m ≡ 0
+  unfolding taken-in taken-by
   taken-none e = rw e
 
-  given-none : handled-as 5 caller g m ≡ false → given-back (calls caller g) m ≡ 0
-  unfolding given-back
+  given-none : handled-as 5 g (called caller g m .answer) ≡ false → given-back (calls caller g) m ≡ 0
+  unfolding given-back given-by
   given-none e = rw e
 
-  other-call : (n : ℕ) → eqb (call-number g) n ≡ false → handled-as n caller g m ≡ false
+  other-call : (n : ℕ) → eqb (call-number g) n ≡ false → handled-as n g (called caller g m .answer) ≡ false
   unfolding handled-as
   other-call n e = rw e (and-false (eqb (outcome-number (called caller g m .answer)) 0 && eqb (protocol g) 0))
 
-  other-protocol : (n : ℕ) → eqb (protocol g) 0 ≡ false → handled-as n caller g m ≡ false
+  other-protocol : (n : ℕ) → eqb (protocol g) 0 ≡ false → handled-as n g (called caller g m .answer) ≡ false
   unfolding handled-as
   other-protocol n e = rw (e, and-false (eqb (outcome-number (called caller g m .answer)) 0))
 
-  not-handled : (n : ℕ) → eqb (outcome-number (called caller g m .answer)) 0 ≡ false → handled-as n caller g m ≡ false
+  not-handled : (n : ℕ) → eqb (outcome-number (called caller g m .answer)) 0 ≡ false → handled-as n g (called caller g m .answer) ≡ false
   unfolding handled-as
   not-handled n e = rw e
 
@@ -110,18 +110,18 @@ module _ (caller : ℕ) (g : Registers) (m : Machine) where
 
   -- a refusal's code gives nothing back
   given-code : eqb (called caller g m .after .registers .rax) 0 ≡ false → given-back (calls caller g) m ≡ 0
-  unfolding given-back
-  given-code e = rw (e, and-false (handled-as 5 caller g m))
+  unfolding given-back given-by
+  given-code e = rw (e, and-false (handled-as 5 g (called caller g m .answer)))
 
   taken-head : head-accepted (vcpu (m .lent) caller .vmpl) (g .rcx) (m .lent) ≡ false → taken-in (calls caller g) m ≡ 0
-  unfolding taken-in
-  taken-head e = rw (e, and-false (handled-as 4 caller g m))
+  unfolding taken-in taken-by
+  taken-head e = rw (e, and-false (handled-as 4 g (called caller g m .answer)))
 
   -- the index as it was takes nothing in
   taken-still : list-next (g .rcx) (called caller g m .after .machine .lent) ≡ list-next (g .rcx) (m .lent) → taken-in (calls caller g) m ≡ 0
-  unfolding taken-in
+  unfolding taken-in taken-by
   taken-still e =
-      by-test (handled-as 4 caller g m && head-accepted (vcpu (m .lent) caller .vmpl) (g .rcx) (m .lent))
+      by-test (handled-as 4 g (called caller g m .answer) && head-accepted (vcpu (m .lent) caller .vmpl) (g .rcx) (m .lent))
       (λ t. rw (t, e) (pages-none (g .rcx) (list-next (g .rcx) (m .lent)) (m .lent)))
       (λ t. rw t)
 
@@ -299,7 +299,7 @@ module _ (caller : ℕ) (g : Registers) (m : Machine) (s : Sound (m .lent)) (fin
           (index-fits entries-a-call rcx (deposits .to) (m .lent) (h .counts) (h .nexts) (deposits .most))
 
       deposit-taken : taken-in (calls caller g) m ≡ pages-listed (g .rcx) (m .lent) (range from (deposits .to - from))
-      unfolding taken-in handled-as
+      unfolding taken-in taken-by handled-as
       deposit-taken = rw (ended-handled deposit is (deposits .sheet), protocol-0, number-4, acc, index-after)
 
       deposit-accepted : Counted (calls caller g) m
@@ -345,7 +345,7 @@ module _ (caller : ℕ) (g : Registers) (m : Machine) (s : Sound (m .lent)) (fin
           list-kept withdrawal is withdrawal-sheet 2 0 mult page ∙ withdrawn-count (vcpu (m .lent) caller .vmpl) rcx (m .lent) there room
 
       withdrawal-given : given-back (calls caller g) m ≡ length (withdrawn-pages (g .rcx) (m .lent))
-      unfolding given-back handled-as
+      unfolding given-back given-by handled-as
       withdrawal-given =
           rw (ended-handled withdrawal is withdrawal-sheet, protocol-0, number-5, ended-rax withdrawal is withdrawal-sheet, success-code) count-after
 

@@ -14,7 +14,7 @@ use Rattle.rules.specs.Runs.{pool}
 use Rattle.laws.proofs.Ranges.{→absent}
 use Rattle.laws.proofs.Counts.{count-each-down, memory-each}
 use Rattle.laws.proofs.TableByte.{owner-own, owner-grant}
-use Rattle.safety.specs.Statements.{in-pool}
+use Rattle.safety.specs.Terms.{in-pool}
 use Rattle.safety.proofs.Small.{every-weaker}
 use Rattle.safety.proofs.Checks.{free-owner, withdrawn-rising, withdrawn-free}
 use Rattle.safety.proofs.Pool.Counts.{pooled, in-pool-owner, pool-counts, pool-write}
