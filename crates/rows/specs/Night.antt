@@ -1,11 +1,12 @@
 -- How a table of rows is read. A row goes on from the machine that the row above it left: first the guest, at VMPL 1, stores some bytes; then
--- comes a launch or a call; then the answer, bytes of memory and bytes of the table are compared with what is expected.
+-- comes a launch or a call; then the answer, bytes of memory and bytes of the table are compared with what is expected, and the machine has to be sound.
 use Rattle.rules.specs.Words.{ℕ, zero, suc, _/_, _%_, _^_, Bool, true, false, _&&_, List, [], _∷_, eqb, length, take, drop, every}
 use Rattle.rules.specs.declared.Registers.{Registers}
 use Rattle.rules.specs.Answers.{outcome-number, launched-number}
-use Rattle.rules.specs.Machine.{Machine, page-of, offset-of, page-at, startup}
+use Rattle.rules.specs.Machine.{Machine, page-of, offset-of, page-at, vcpu}
 use Rattle.rules.specs.declared.Plan.{Plan}
 use Rattle.rules.specs.Launch.{launch}
+use Rattle.rules.specs.Sound.{sound}
 use Rattle.rules.specs.Runs.{Step, stores, called, run-steps}
 
 -- n bytes as they are written on paper, the first one first
@@ -18,10 +19,10 @@ pub record Placed : Type 0 where
   pub place : ℕ
   pub bytes : List ℕ
 
--- a launch; or a call by the startup vCPU, whose pending byte is set first
+-- a launch; or a call by the vCPU of a record, whose pending byte is set first
 pub data Event : Type 0 where
   launches : Plan → Event
-  asks : Registers → Event
+  asks : ℕ → Registers → Event
 
 pub record Row : Type 0 where
   pub stored : List Placed
@@ -43,8 +44,8 @@ unfoldable pub happen : Event → Machine → Seen
 happen (launches plan) m =
     let a = launch plan m in
     record { answer = launched-number (a .answer) ∷ []; machine = a .after }
-happen (asks g) m =
-    let a = called 0 g (run-steps (stores 1 (startup (m .lent) .calling) 0 (1 ∷ []) ∷ []) m) in
+happen (asks caller g) m =
+    let a = called caller g (run-steps (stores 1 (vcpu (m .lent) caller .calling) 0 (1 ∷ []) ∷ []) m) in
     let after = a .after .registers in
     record { answer = outcome-number (a .answer) ∷ after .rax ∷ after .rcx ∷ []; machine = a .after .machine }
 
@@ -63,6 +64,7 @@ as-expected r s =
     same (s .answer) (r .answer)
     && every (λ e. stand (page-at m (page-of (e .place))) (offset-of (e .place)) (e .bytes)) (r .memory)
     && every (λ e. stand (m .table) (e .place) (e .bytes)) (r .table)
+    && sound m
 
 unfoldable pub hold : List Row → Machine → Bool
 hold [] m = true

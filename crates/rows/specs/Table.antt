@@ -1,6 +1,7 @@
--- The rows marked * of "Sixteen pages", in the paper's order: "Monitor 12 to 15, VMSA 11, calling 10, V 8, VMPL 1."
+-- The rows of "Sixteen pages", in the paper's order, those marked * and then the three that are not: "Monitor 12 to 15, VMSA 11, calling 10, V 8, VMPL 1."
+-- Last comes one that the paper has no row for, a vCPU that deletes itself, so that every outcome of a real call stands in the table.
 -- The memory is blank but for the two bytes of the VMSA page that launch wants: its VMPL, and EFER bit 12.
-use Rattle.rules.specs.Words.{ℕ, List, [], _∷_, _++_, replicate, set, page-size, records, record-size}
+use Rattle.rules.specs.Words.{ℕ, zero, suc, List, [], _∷_, _++_, replicate, set, page-size, records, record-size}
 use Rattle.rules.specs.Machine.{Machine, zeros}
 use Rattle.rules.specs.declared.Plan.{Plan}
 use Rattle.rows.specs.Night.{hex, Placed, Event, launches, asks, Row}
@@ -20,15 +21,22 @@ blank =
 unfoldable pub plan : Plan
 plan = record { first = 12; count = 4; vmsa = 11; calling = 10; apic = 0; valid = 8 }
 
--- the cells of the table: n bytes at a place; call RAX with RCX, RDX and R8; outcome 0 with this code and this RCX
+-- the cells of the table: n bytes at a place; an entry n times from a place on; call RAX with RCX, RDX and R8; outcome 0 with this code and this RCX
 unfoldable pub at : ℕ → ℕ → ℕ → Placed
 at place n digits = record { place = place; bytes = hex n digits }
+
+unfoldable pub times : ℕ → List ℕ → List ℕ
+times zero bytes = []
+times (suc n) bytes = bytes ++ times n bytes
+
+unfoldable pub entries : ℕ → ℕ → ℕ → Placed
+entries place n digits = record { place = place; bytes = times n (hex 8 digits) }
 
 unfoldable pub blank-page : ℕ → Placed
 blank-page place = record { place = place; bytes = zeros page-size }
 
 unfoldable pub ask : ℕ → ℕ → ℕ → ℕ → Event
-ask rax rcx rdx r8 = asks (record { rax = rax; rcx = rcx; rdx = rdx; r8 = r8; r9 = 0; reason = 0x403 })
+ask rax rcx rdx r8 = asks 0 (record { rax = rax; rcx = rcx; rdx = rdx; r8 = r8; r9 = 0; reason = 0x403 })
 
 unfoldable pub code : ℕ → ℕ → List ℕ
 code rax rcx = 0 ∷ rax ∷ rcx ∷ []
@@ -200,6 +208,58 @@ rows =
       answer = code 0 0;
       memory = [];
       table = [];
+    }
+    ∷
+    -- "Page 8 twice in one list, both wishing valid: index 1, 0x80001010": a list refused midway, for which page 8 is made invalid
+    record {
+      stored = at 0x1000 16 0x01_00_00_00_00_00_00_00_00_80_00_00_00_00_00_00 ∷ [];
+      event = ask 1 0x1000 0 0;
+      answer = code 0 0x1000;
+      memory = at 0x1002 2 0x01_00 ∷ [];
+      table = at 8 1 0x00 ∷ [];
+    }
+    ∷
+    record {
+      stored = at 0x1100 24 0x02_00_00_00_00_00_00_00_04_80_00_00_00_00_00_00_04_80_00_00_00_00_00_00 ∷ [];
+      event = ask 1 0x1100 0 0;
+      answer = code 0x80001010 0x1100;
+      memory = at 0x1102 2 0x01_00 ∷ blank-page 0x8000 ∷ [];
+      table = at 8 1 0x18 ∷ [];
+    }
+    ∷
+    -- "33 entries: incomplete at 32"; and the same list again does the last one
+    record {
+      stored = at 0x1000 4 0x21_00_00_00 ∷ entries 0x1008 33 0x0C_80_00_00_00_00_00_00 ∷ [];
+      event = ask 1 0x1000 0 0;
+      answer = code 0x80000000 0x1000;
+      memory = at 0x1002 2 0x20_00 ∷ [];
+      table = at 8 1 0x18 ∷ [];
+    }
+    ∷
+    record {
+      stored = [];
+      event = ask 1 0x1000 0 0;
+      answer = code 0 0x1000;
+      memory = at 0x1002 2 0x21_00 ∷ [];
+      table = at 8 1 0x18 ∷ [];
+    }
+    ∷
+    -- "A 512-page entry with N 16: ADDRESS"
+    record {
+      stored = at 0x1000 16 0x01_00_00_00_00_00_00_00_05_00_00_00_00_00_00_00 ∷ [];
+      event = ask 1 0x1000 0 0;
+      answer = code 0x80000003 0x1000;
+      memory = at 0x1002 2 0x00_00 ∷ [];
+      table = at 0 2 0x78_78 ∷ [];
+    }
+    ∷
+    -- the vCPU of record 1, whose VMSA is page 6 and whose calling page is 7, deletes itself: gone, its registers and its pending byte as they were
+    record {
+      stored = [];
+      event = asks 1 (record { rax = 3; rcx = 0x6000; rdx = 0; r8 = 0; r9 = 0; reason = 0x403 });
+      answer = 2 ∷ 3 ∷ 0x6000 ∷ [];
+      memory = at 0x60D0 8 0x00_00_00_00_00_00_00_00 ∷ at 0x7000 1 0x01 ∷ at 0xA000 2 0x00_00 ∷ [];
+      table = at 6 2 0x18_78 ∷ [];
     }
     ∷
     []
