@@ -48,7 +48,8 @@ pub record Sound-machine (m : Lent) : Type 0 where
   pub sheet : length (m .sheet) ≡ records
   pub rows : (i : ℕ) → i < records → length (record-at m i) ≡ record-size
   -- "Owners 5, 1 and 4 stand on exactly the pages that live records name as VMSA, calling page and held pool page"
-  pub named : (p : ℕ) → p < N m → (owner (table-byte m p) ≡ vmsa-area) ⊎ ((owner (table-byte m p) ≡ calling-area) ⊎ (owner (table-byte m p) ≡ pool-in-use))
+  pub named : (p : ℕ) → p < N m
+      → (owner (table-byte m p) ≡ vmsa-area) ⊎ ((owner (table-byte m p) ≡ calling-area) ⊎ (owner (table-byte m p) ≡ pool-in-use))
       → Named m p (owner (table-byte m p))
   pub owned : (i p o : ℕ) → Live m i → Names m i p o → owner (table-byte m p) ≡ o
   -- "each named once"
@@ -60,13 +61,13 @@ pub record Sound-machine (m : Lent) : Type 0 where
   pub running-byte : (i : ℕ) → vcpu m i .running ≤ 1
   pub holding-byte : (i : ℕ) → vcpu m i .holding ≤ 1
   pub names-below : (i : ℕ) → Live m i → Names-below m i
-  -- "and keeps the layout above"
-  pub layout : (i : ℕ) → Live m i → Layout m i
+  -- "and keeps the layout above": each record, live or not
+  pub layout : (i : ℕ) → Layout m i
   -- "Record 0 is live"
   pub startup-live : Live m 0
   -- "A live record from 4 up holds a pool page, 0 to 3 never do"
   pub holders : (i : ℕ) → Live m i → 4 ≤ i → vcpu m i .holding ≡ 1
-  pub others : (i : ℕ) → Live m i → i < 4 → vcpu m i .holding ≡ 0
+  pub first-four : (i : ℕ) → i < 4 → vcpu m i .holding ≡ 0
   -- "other records are zeros"
   pub blank : (i : ℕ) → i < records → (Live m i → ⊥) → record-at m i ≡ zeros record-size
   -- "Live APIC IDs differ, and no live VMPL is below the startup's"
@@ -75,6 +76,8 @@ pub record Sound-machine (m : Lent) : Type 0 where
   -- "Pages that aren't plain are valid"
   pub validity : (p : ℕ) → p < N m → (owner (table-byte m p) ≡ plain → ⊥) → valid (table-byte m p) ≡ true
   -- "Owners 2 to 5 and invalid pages carry no permission"
-  pub sealed : (p c : ℕ) → p < N m → (2 ≤ owner (table-byte m p)) ⊎ (valid (table-byte m p) ≡ false) → permitted c (table-byte m p) ≡ false
+  pub sealed : (p c : ℕ) → p < N m → ((2 ≤ owner (table-byte m p)) × (owner (table-byte m p) ≤ 5)) ⊎ (valid (table-byte m p) ≡ false)
+      → permitted c (table-byte m p) ≡ false
   -- "valid plain and calling pages carry the startup's VMPL"
-  pub carried : (p : ℕ) → p < N m → owner (table-byte m p) ≤ calling-area → valid (table-byte m p) ≡ true → permitted (startup m .vmpl) (table-byte m p) ≡ true
+  pub carried : (p : ℕ) → p < N m → (owner (table-byte m p) ≡ plain) ⊎ (owner (table-byte m p) ≡ calling-area) → valid (table-byte m p) ≡ true
+      → permitted (startup m .vmpl) (table-byte m p) ≡ true
