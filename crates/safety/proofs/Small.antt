@@ -1,14 +1,15 @@
 -- Small laws of tests and of lists, which every part of these proofs uses.
-use mathlib.Core.Path.{_≡_, refl, sym, _∙_}
+use mathlib.Core.Path.{_≡_, refl, sym, _∙_, ap}
 use mathlib.Core.Bool.{Bool, true, false, not, _&&_, true≢false, and-eq-true-iff}
 use mathlib.Core.List.{List, [], _∷_}
-use Prim.Native.Nat.{ℕ, zero, suc, _<_, _≤_}
+use Prim.Native.Nat.{ℕ, zero, suc, _+_, _<_, _≤_}
 use native.Mathlib.Omega.{arith}
 use lib.Dec.{eqb}
-use lib.ListN.{length, set}
-use borrow.Author.Tests.{eqb-true, eqb-false, ne-eqb}
-use Rattle.rules.specs.Words.{every, exists}
-use Rattle.laws.proofs.Ranges.{by-test, Rising, none, more}
+use lib.ListN.{length, getD, set}
+use borrow.Author.Tests.{eqb-true, eqb-false, ltb-true, ne-eqb}
+use Rattle.rules.specs.Words.{every, exists, count}
+use Rattle.laws.proofs.Ranges.{by-test, →exists, →absent, Rising, none, more}
+use Rattle.laws.proofs.Counts.{one, count-cons, exists-count, count-none}
 
 -- ---- tests
 
@@ -27,6 +28,11 @@ pub one-holds : (a b : Bool) → (not a && not b) ≡ false → b ≡ false → 
 one-holds true b e f = refl
 one-holds false true e f = absurd (true≢false f)
 one-holds false false e f = absurd (true≢false e)
+
+-- a test that can't pass fails
+pub fails : (a : Bool) → (a ≡ true → ⊥) → a ≡ false
+fails true f = absurd (f refl)
+fails false f = refl
 
 -- two numbers that differ, the other way round
 pub flip : (p q : ℕ) → eqb p q ≡ false → eqb q p ≡ false
@@ -87,3 +93,34 @@ not-among test p (q ∷ qs) e f =
 -- and what is in it passes
 pub among : (test : ℕ → Bool) (p : ℕ) (qs : List ℕ) → every test qs ≡ true → exists (eqb p) qs ≡ true → test p ≡ true
 among test p qs e h = by-test (test p) (λ t. t) (λ t. absurd (true≢false (sym h ∙ not-among test p qs e t)))
+
+-- ---- counts
+
+module _ {A : Type 0} (test : A → Bool) where
+  -- one that passes is counted
+  pub counted : (xs : List A) (i : ℕ) (d : A) → i < length xs → test (getD xs i d) ≡ true → 0 < count test xs
+  counted xs i d h e = ltb-true 0 (count test xs) (sym (exists-count test xs) ∙ →exists test xs i d h e)
+
+  -- where at most one is counted, two places that pass are the same
+  pub counted-once : (xs : List A) (d : A) → count test xs ≤ 1
+      → (i j : ℕ) → i < length xs → j < length xs → test (getD xs i d) ≡ true → test (getD xs j d) ≡ true → i ≡ j
+  counted-once [] d c i j h k e f = absurd (omega arith)
+  counted-once (x ∷ xs) d c zero zero h k e f = refl
+  counted-once (x ∷ xs) d c zero (suc j) h k e f = absurd (omega (arith, count-cons test x xs, ap one e, counted xs j d (omega arith) f))
+  counted-once (x ∷ xs) d c (suc i) zero h k e f = absurd (omega (arith, count-cons test x xs, ap one f, counted xs i d (omega arith) e))
+  counted-once (x ∷ xs) d c (suc i) (suc j) h k e f =
+      ap suc (counted-once xs d (omega (arith, count-cons test x xs)) i j (omega arith) (omega arith) e f)
+
+  -- and the reverse
+  pub once-counted : (xs : List A) (d : A)
+      → ((i j : ℕ) → i < length xs → j < length xs → test (getD xs i d) ≡ true → test (getD xs j d) ≡ true → i ≡ j) → count test xs ≤ 1
+  unfolding count
+  once-counted [] d f = omega arith
+  once-counted (x ∷ xs) d f =
+      let rest = once-counted xs d (λ i j h k a b. omega (arith, f (suc i) (suc j) (omega arith) (omega arith) a b)) in
+      by-test (test x)
+      (λ t.
+      let none : count test xs ≡ 0
+      = count-none test xs (→absent test xs d (λ i h. fails (test (getD xs i d)) (λ e. omega (arith, f 0 (suc i) (omega arith) (omega arith) t e)))) in
+      rw t (omega arith))
+      (λ t. rw t rest)

@@ -1,4 +1,4 @@
--- A sound machine, and that launch makes one and every step keeps it: statements 0 and 1.
+-- A sound machine, and that launch makes one and every step keeps it: statements 0 and 1; and that it is the one of the sentences.
 pub mod Facts
 pub mod Sizes
 pub mod Claims
@@ -13,3 +13,6 @@ pub mod Delete
 pub mod Steps
 pub mod Launch
 pub mod Runs
+pub mod Named
+pub mod Said
+pub mod Suffices

@@ -5,11 +5,11 @@ use Prim.Native.Nat.{ℕ, _<_}
 use Rattle.rules.specs.Words.{records, entries-a-call}
 use Rattle.rules.specs.Machine.{Lent, is-live, record-at}
 use Rattle.rules.specs.Runs.{run-steps}
-use Rattle.safety.specs.Statements.{Launched-sound, Stays-sound, Sealed, Monitor-kept, Vmsa-kept, Pool-kept, Step-counted, Run-counted}
+use Rattle.safety.specs.Statements.{Sound-means, Launched-sound, Stays-sound, Sealed, Monitor-kept, Vmsa-kept, Pool-kept, Step-counted, Run-counted}
 use Rattle.safety.specs.Statements.{Counted-from-launch, At-most, At-most-twelve, All-come-back, Unreal-changes-nothing, Unreal-changes-no-byte}
 use Rattle.safety.specs.Statements.{On-machines, Gone-law, Refusal-law, Validated-once, Second-validation-refused, Validated-pages-zero, Carried-out}
 use Rattle.safety.specs.Statements.{Launched-on-bytes, Runs-on-bytes}
-use Rattle.safety.proofs.Sound.Facts.{Sound}
+use Rattle.safety.proofs.Sound.Facts.{Sound, open-sound, close-sound}
 use Rattle.safety.proofs.Sound.OnePage.{write-sound}
 use Rattle.safety.proofs.Sound.Rows.{vmsa-owned, calling-owned, pool-owned}
 use Rattle.safety.proofs.Sound.Lists.{list-call-sound}
@@ -19,6 +19,8 @@ use Rattle.safety.proofs.Sound.Remap.{remap-sound}
 use Rattle.safety.proofs.Sound.Delete.{delete-sound}
 use Rattle.safety.proofs.Sound.Create.{create-sound}
 use Rattle.safety.proofs.Sound.Launch as Launch
+use Rattle.safety.proofs.Sound.Said.{said}
+use Rattle.safety.proofs.Sound.Suffices.{suffices}
 use Rattle.safety.proofs.Sound.Runs.{Each-sound, stays-sound-by}
 use Rattle.safety.proofs.Kept.Sealed.{sealed-now}
 use Rattle.safety.proofs.Kept.Fates.{Owned}
@@ -49,6 +51,11 @@ each-sound =
 -- the pages that a live record names have their owners
 owned : (m : Lent) → Sound m → (i : ℕ) → i < records → is-live (record-at m i) ≡ true → Owned i m
 owned m s i h live = record { vmsa = vmsa-owned m s i h live; calling = calling-owned m s i h live; pool = pool-owned m s i h live }
+
+-- a sound machine, by its sentences
+pub sound-means : Sound-means
+unfolding Sound-means
+sound-means m = (λ e. said m (open-sound m e), λ h. close-sound m (suffices m h))
 
 -- 0
 pub launched-sound : Launched-sound

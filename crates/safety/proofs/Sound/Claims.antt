@@ -6,8 +6,8 @@ use Prim.Native.Nat.{ℕ, suc, _+_, _<_}
 use native.Mathlib.Omega.{arith}
 use lib.Dec.{eqb}
 use lib.ListN.{length, getD, take, drop, set, length-append}
-use lib.Seq.{split-at, set-split}
-use borrow.Author.Tests.{eqb-true, eq-eqb}
+use lib.Seq.{split-at, set-split, getD-set-other, lt-length-set}
+use borrow.Author.Tests.{eqb-true, eqb-false, eq-eqb}
 use Rattle.rules.specs.Words.{every, exists}
 use Rattle.rules.specs.Machine.{fields, is-live, holds}
 use Rattle.rules.specs.Sound.{claim, claims, agrees}
@@ -172,6 +172,18 @@ module _ (sheet : List (List ℕ)) (i : ℕ) (p o : ℕ) (h : i < length sheet) 
       let sizes = claims-sizes sheet i p h in
       let some = inhabited (eqb c) mine e in
       rw (claims-split sheet i p h, empty before (omega arith), empty after (omega arith)) (append-nil mine)
+
+  -- what another record claims is another page
+  pub claimed-once : (j c d : ℕ) → j < length sheet → exists (eqb c) (claim (getD sheet i []) p) ≡ true
+      → exists (eqb d) (claim (getD sheet j []) p) ≡ true → i ≡ j
+  unfolding exists is-live fields
+  claimed-once j c d k e f =
+      by-test (eqb i j) (eqb-true i j)
+      (λ t.
+      let still : exists (eqb d) (claim (getD (set sheet i []) j []) p) ≡ true
+      = rw (getD-set-other sheet i j [] [] (λ z. eqb-false i j t (sym z))) f in
+      let gone = claims-alone sheet i p h (claimed-alone c e) [] ∙ claim-dead [] p refl in
+      absurd (true≢false (sym (rw gone at (claimed (set sheet i []) j p (lt-length-set sheet i [] k) d still)))))
 
   -- where the owner is not claimed, record i claims nothing, and nobody does
   pub unclaimed-alone : nameable o ≡ false → claims sheet p ≡ claim (getD sheet i []) p

@@ -121,7 +121,7 @@ module _ (c : ℕ) (cs : List ℕ) (b : ℕ) (right : Page-right c cs b) where
   owned-valid h = rw (ne-eqb _ _ h) at (right .validated)
 
   -- a valid plain or calling page carries VMPL c
-  carried : valid b ≡ true → leb (owner b) 1 ≡ true → permitted c b ≡ true
+  pub carried : valid b ≡ true → leb (owner b) 1 ≡ true → permitted c b ≡ true
   unfolding well-permitted
   carried v l = rw (v, l) at (right .allowed)
 

@@ -28,6 +28,11 @@ module _ (m : Lent) (e : table-sized m ≡ true) where
       let inner = and-eq-true-iff pages rows .0 (outer .0) in
       (inner .0, inner .1, outer .1)
 
+  -- there are pages enough
+  pub enough-pages : least-pages ≤ N m
+  unfolding between
+  enough-pages = leb-true _ _ (and-eq-true-iff (leb least-pages (N m)) (leb (N m) most-pages) .0 (table-sizes .0) .0)
+
   -- a page's number fits four bytes
   pub few-pages : N m ≤ most-pages
   unfolding between
