@@ -1,5 +1,7 @@
--- Of every input whatever: statements 7, 8 and 9.
+-- Of every input whatever: statements 7, 8, 9 and 10.
 pub mod Unreal
 pub mod Gone
 pub mod Refusal
 pub mod SecondValidation
+pub mod Modest
+pub mod Confined

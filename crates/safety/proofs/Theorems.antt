@@ -8,7 +8,7 @@ use Rattle.rules.specs.Runs.{run-steps}
 use Rattle.safety.specs.Statements.{Sound-means, Launched-sound, Stays-sound, Sealed, Monitor-kept, Vmsa-kept, Pool-kept, Step-counted, Run-counted}
 use Rattle.safety.specs.Statements.{Counted-from-launch, At-most, At-most-twelve, All-come-back, Unreal-changes-nothing, Unreal-changes-no-byte}
 use Rattle.safety.specs.Statements.{On-machines, Gone-law, Refusal-law, Validated-once, Second-validation-refused, Validated-pages-zero, Carried-out}
-use Rattle.safety.specs.Statements.{Launched-on-bytes, Runs-on-bytes}
+use Rattle.safety.specs.Statements.{Confinement-law, Launched-on-bytes, Runs-on-bytes}
 use Rattle.safety.proofs.Sound.Facts.{Sound, open-sound, close-sound}
 use Rattle.safety.proofs.Sound.OnePage.{write-sound}
 use Rattle.safety.proofs.Sound.Rows.{vmsa-owned, calling-owned, pool-owned}
@@ -33,6 +33,7 @@ use Rattle.safety.proofs.Always.Unreal as Unreal
 use Rattle.safety.proofs.Always.Gone as Gone
 use Rattle.safety.proofs.Always.Refusal as Refusal
 use Rattle.safety.proofs.Always.SecondValidation as Second
+use Rattle.safety.proofs.Always.Confined as Confined
 use Rattle.safety.proofs.Bytes.{launched-on-bytes-by, runs-on-bytes-by}
 
 -- each call and each other step keeps a machine sound
@@ -137,6 +138,10 @@ validated-pages-zero = Second.validated-pages-zero
 
 pub carried-out : Carried-out
 carried-out = Second.carried-out
+
+-- 10
+pub confined : On-machines Confinement-law
+confined = Confined.confined
 
 -- on the lent bytes
 pub launched-on-bytes : Launched-on-bytes
