@@ -36,6 +36,11 @@ pub past : {A B : Type 0} (P : B → Type 0) (now : B) (t : Bool) (a : A) (rest 
     → P (refuse now t a rest .after)
 past P now t a rest h = on-refuse (λ x. P (x .after)) now t a rest (λ t. h)
 
+-- a check that is passed leaves the rest
+pub passed : {A B : Type 0} (now : B) (t : Bool) (a : A) (rest : Answered A B) → t ≡ false → refuse now t a rest ≡ rest
+unfolding refuse
+passed now t a rest e = rw e
+
 -- two outcomes with different numbers are not one
 pub never : {A : Type 0} (o p : Outcome) → eqb (outcome-number o) (outcome-number p) ≡ false → o ≡ p → A
 never o p t e = absurd (eqb-false (outcome-number o) (outcome-number p) t (ap outcome-number e))

@@ -9,12 +9,13 @@ use native.Mathlib.Nat.{zero-add}
 use lib.Dec.{leb, ltb, eqb}
 use lib.ListN.{length, getD}
 use borrow.Author.Tests.{eqb-true, eqb-false, ltb-true, ltb-false, leb-true, leb-false, ne-eqb, not-true, not-false}
+use Rattle.rules.specs.declared.Code.{Code}
 use Rattle.rules.specs.declared.Code.the-variants.{Success}
 use Rattle.rules.specs.declared.Launched.{Launched}
 use Rattle.rules.specs.declared.Launched.the-variants.{Made, OutOfRange, AreasMeet, UnfitVmsa}
 use Rattle.rules.specs.declared.ListCall.{ListCall}
 use Rattle.rules.specs.declared.Plan.{Plan}
-use Rattle.rules.specs.Answers.{refuse, launched-number}
+use Rattle.rules.specs.Answers.{Answered, refuse, launched-number}
 use Rattle.rules.specs.Words.{page-size, records, between, bit, bits, multiple, every, exists, places}
 use Rattle.rules.specs.Machine.{Lent, Machine, N, below, page-of, offset-of, page-at, owner, valid, table-byte, owned-by, usable}
 use Rattle.rules.specs.Machine.{with-memory, write, grant, own, change, fields, is-live, needs-page, record-at, vcpu, startup, vmsa-vmpl, vmsa-features, efer}
@@ -28,7 +29,7 @@ use Rattle.laws.proofs.Ranges.{by-test, lowest-passes, exists-lowest, every-tak
 use Rattle.safety.proofs.Small.{and-false→, one-holds, among}
 use Rattle.laws.proofs.Counts.{table-byte-each}
 use Rattle.laws.proofs.TableByte.{owner-grant, owner-own}
-use Rattle.safety.proofs.Branches.{past}
+use Rattle.safety.proofs.Branches.{past, passed}
 use Rattle.safety.proofs.Effects.{owned-below}
 
 -- ---- the caller
@@ -280,23 +281,25 @@ module _ (caller rcx : ℕ) (m : Lent) where
   abbrev meant : ℕ
   meant = named-by (page-of rcx) m
 
-  delete-fit : (not (multiple page-size rcx) || leb (length (m .sheet)) meant || eqb meant 0 || ltb (vcpu m meant .vmpl) (vcpu m caller .vmpl)) ≡ false
-      → (not (eqb meant caller) && eqb (vcpu m meant .running) 1) ≡ false → Delete-fit caller rcx meant m
-  unfolding delete refuse vcpu record-at named-by
-  delete-fit e f =
+  -- whatever test of VMPLs stands beside the others
+  delete-fit : (low : Bool) → (not (multiple page-size rcx) || leb (length (m .sheet)) meant || eqb meant 0 || low) ≡ false
+      → delete caller rcx m .answer ≡ Success → Delete-fit caller rcx meant m
+  unfolding vcpu record-at named-by
+  delete-fit low e done =
       let test : List ℕ → Bool = λ r. is-live r && eqb (fields r .vmsa) (page-of rcx) in
       let odd = not (multiple page-size rcx) in
       let none = leb (length (m .sheet)) meant in
-      let outer = or-false (odd || none) (eqb meant 0) (or-false (odd || none || eqb meant 0) _ e .0) in
+      let outer = or-false (odd || none) (eqb meant 0) (or-false (odd || none || eqb meant 0) low e .0) in
       let h = leb-false (length (m .sheet)) meant (or-false odd none (outer .0) .1) in
       let both = and-eq-true-iff _ _ .0 (lowest-passes test (m .sheet) [] h) in
-      record { row = h; later = eqb-false meant 0 (outer .1); live = both .0; named = eqb-true _ (page-of rcx) (both .1); done = rw (e, f) }
+      record { row = h; later = eqb-false meant 0 (outer .1); live = both .0; named = eqb-true _ (page-of rcx) (both .1); done = done }
 
   -- Delete
   pub past-delete : (P : Lent → Type 0) → P m → (Delete-fit caller rcx meant m → P (deleted (vcpu m caller .vmpl) meant m))
       → P (delete caller rcx m .after)
   unfolding delete
-  past-delete P h k = past P m _ _ _ h (λ e. past P m _ _ _ h (λ f. k (delete-fit e f)))
+  past-delete P h k =
+      past P m _ _ _ h (λ e. past P m _ _ _ h (λ f. k (delete-fit _ e (ap (λ (a : Answered Code Lent). a .answer) (passed m _ _ _ e ∙ passed m _ _ _ f)))))
 
 -- ---- launch
 

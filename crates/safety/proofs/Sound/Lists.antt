@@ -33,7 +33,7 @@ wished-right Invalid c v b e h f =
     right-invalid c [] (make-invalid (revoke b)) (simp (byte·simp, o)) (simp (byte·simp, o)) (simp byte·simp) (simp byte·simp)
 wished-right Valid c v b e h f =
     let o = eqb-true (owner b) 0 f in
-    right-open c [] (grant v (make-valid b)) (simp (byte·simp, o)) (simp (byte·simp, o)) (simp byte·simp) (granted c v (make-valid b) e h)
+    right-open c [] _ (simp (byte·simp, o)) (simp (byte·simp, o)) (simp byte·simp) (granted c _ (make-valid b) e (omega arith))
 wished-right Pool c v b e h f = right-taken c 3 b [] refl refl (and-eq-true-iff (eqb (owner b) 0) (valid b) .0 f .1) refl
 
 -- a page that is plain and fit, after its wish, is right for its claims, which are none
