@@ -17,8 +17,8 @@ use Rattle.rules.specs.declared.Wish.the-variants.{Invalid, Valid, Pool}
 use Rattle.rules.specs.Answers.{Answered}
 use Rattle.rules.specs.Words.{bit, range, every, each}
 use Rattle.rules.specs.Machine.{Lent, N, below, page-of, page-at, with-memory, write, fill, owner, valid, table-byte, put, owned-by, usable, record-at, vcpu}
-use Rattle.rules.specs.Lists.{in-list, list-count, list-entry, store-index, entry-first, entry-pages, covered, malformed, coverable, read-covered, read-entry}
-use Rattle.rules.specs.Lists.{cleared, carry-out, carry-out-all, after-entry, run, run-within}
+use Rattle.rules.specs.Lists.{in-list, list-count, list-next, list-entry, store-index, entry-first, entry-pages, covered, malformed, coverable}
+use Rattle.rules.specs.Lists.{read-covered, read-entry, cleared, carry-out, carry-out-all, after-entry, run, run-within}
 use Rattle.laws.proofs.Ranges.{by-test, every-range→}
 use Rattle.safety.proofs.Effects.{entry-sheet}
 
@@ -163,6 +163,11 @@ module _ (call : ListCall) (caller rcx e first n : ℕ) (wish : Wish) (m : Lent)
   unfolding list-count in-list
   count-kept = rw list-kept
 
+  -- its index
+  pub next-kept : list-next rcx (carry-out-all wish (vcpu m caller .vmpl) first n m) ≡ list-next rcx m
+  unfolding list-next in-list
+  next-kept = rw list-kept
+
   -- and its entries are as they were
   pub entry-kept : (k : ℕ) → list-entry k rcx (carry-out-all wish (vcpu m caller .vmpl) first n m) ≡ list-entry k rcx m
   unfolding list-entry in-list
@@ -188,12 +193,12 @@ module _ (call : ListCall) (caller rcx : ℕ) (P : Lent → Type 0) (keeps : Kee
   unfolding after-entry
   after-keeps k go-on m e (Reads first n wish) is goes h =
       goes _ (keeps .carried e first n wish m h (entry-read call caller rcx e first n wish m is))
-  after-keeps k go-on m e (Unread code) is goes h = keeps .stored k m h
+  after-keeps k go-on m e (Unread code) is goes h = keeps .stored _ m h
 
   -- a run of any number of entries keeps it
   pub run-keeps : (todo k : ℕ) (m : Lent) → P m → P (run call caller rcx todo k m .after)
   unfolding run
-  run-keeps zero k m h = keeps .stored k m h
+  run-keeps zero k m h = keeps .stored _ m h
   run-keeps (suc todo) k m h =
       after-keeps k (run call caller rcx todo (suc k)) m (list-entry k rcx m) (read-entry call caller rcx (list-entry k rcx m) m) refl
       (run-keeps todo (suc k)) h

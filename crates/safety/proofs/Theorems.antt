@@ -7,8 +7,8 @@ use Rattle.rules.specs.Machine.{Lent, is-live, record-at}
 use Rattle.rules.specs.Runs.{run-steps}
 use Rattle.safety.specs.Statements.{Sound-means, Launched-sound, Stays-sound, Sealed, Monitor-kept, Vmsa-kept, Pool-kept, Step-counted, Run-counted}
 use Rattle.safety.specs.Statements.{Counted-from-launch, At-most, At-most-twelve, All-come-back, Unreal-changes-nothing, Unreal-changes-no-byte}
-use Rattle.safety.specs.Statements.{On-machines, Gone-law, Refusal-law, Validated-once, Second-validation-refused, Validated-pages-zero, Carried-out}
-use Rattle.safety.specs.Statements.{Confinement-law, Launched-on-bytes, Runs-on-bytes}
+use Rattle.safety.specs.Statements.{On-machines, Gone-law, Refusal-law, Validation-law, Validated-once, Second-validation-refused, Validated-pages-zero}
+use Rattle.safety.specs.Statements.{Carried-out, Confinement-law, Launched-on-bytes, Runs-on-bytes}
 use Rattle.safety.proofs.Sound.Facts.{Sound, open-sound, close-sound}
 use Rattle.safety.proofs.Sound.OnePage.{write-sound}
 use Rattle.safety.proofs.Sound.Rows.{vmsa-owned, calling-owned, pool-owned}
@@ -33,6 +33,7 @@ use Rattle.safety.proofs.Always.Unreal as Unreal
 use Rattle.safety.proofs.Always.Gone as Gone
 use Rattle.safety.proofs.Always.Refusal as Refusal
 use Rattle.safety.proofs.Always.SecondValidation as Second
+use Rattle.safety.proofs.Always.WholeCalls as Whole
 use Rattle.safety.proofs.Always.Confined as Confined
 use Rattle.safety.proofs.Bytes.{launched-on-bytes-by, runs-on-bytes-by}
 
@@ -124,6 +125,9 @@ pub refusal-leaves : On-machines Refusal-law
 refusal-leaves = Refusal.refusal-leaves
 
 -- 9
+pub validation-of-calls : On-machines Validation-law
+validation-of-calls = Whole.validation-of-calls
+
 pub validated-once : Validated-once
 unfolding Validated-once
 validated-once = Second.validated-once

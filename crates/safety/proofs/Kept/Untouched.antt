@@ -57,12 +57,13 @@ cleared-elsewhere Invalid p q m e = refl
 cleared-elsewhere Valid p q m e = getD-set-other (m .memory) q p _ [] (eqb-false p q e)
 cleared-elsewhere Pool p q m e = refl
 
-carry-elsewhere : (wish : Wish) (vmpl p q : ℕ) (m : Lent) → eqb p q ≡ false → Untouched p m (carry-out wish vmpl q m)
+-- an entry carried out on another page
+pub carry-elsewhere : (wish : Wish) (vmpl p q : ℕ) (m : Lent) → eqb p q ≡ false → Untouched p m (carry-out wish vmpl q m)
 unfolding carry-out put page-at
 carry-elsewhere wish vmpl p q m e = record { page = cleared-elsewhere wish p q m e; byte = carry-out-other wish vmpl q m p (eqb-false p q e) }
 
 -- an effect on each of some other pages
-each-elsewhere : (effect : ℕ → Lent → Lent) (p : ℕ) → ((q : ℕ) (m : Lent) → eqb p q ≡ false → Untouched p m (effect q m))
+pub each-elsewhere : (effect : ℕ → Lent → Lent) (p : ℕ) → ((q : ℕ) (m : Lent) → eqb p q ≡ false → Untouched p m (effect q m))
     → (qs : List ℕ) (m : Lent) → exists (eqb p) qs ≡ false → Untouched p m (each effect qs m)
 unfolding each exists
 each-elsewhere effect p leaves [] m e = untouched-here
