@@ -19,10 +19,10 @@ use Rattle.rules.specs.Machine.{owned-by, is-live, record-at, vcpu, startup, wi
 use Rattle.rules.specs.Steps.{may-store, store, mark}
 use Rattle.rules.specs.Lists.{bad-list-page}
 use Rattle.rules.specs.Calls.{withdrawn-pages, withdraw}
-use Rattle.rules.specs.Call.{Posed, protocol, call-number, bad-machine, no-call, on-lent, on-rcx, handle, with-rax, clear-pending, set-flag, finish, call}
+use Rattle.rules.specs.Call.{Posed, bad-machine, no-call, on-lent, on-rcx, handle, with-rax, clear-pending, set-flag, finish, call}
 use Rattle.rules.specs.Runs.{Step, calls, stores, marks, called, step}
 use Rattle.laws.proofs.Ranges.{by-test}
-use Rattle.safety.specs.Terms.{done-well, asks-for, deleted-by, given-back-by, deletes, gives-back, Same-page, Kept-page, in-pool}
+use Rattle.safety.specs.Terms.{Back, done-well, asks-for, deleted-by, given-back-by, deletes, gives-back, Same-page, Kept-page, in-pool}
 use Rattle.safety.specs.Statements.{Monitor-kept, Vmsa-kept, Pool-kept}
 use Rattle.safety.proofs.Branches.{Asks, past, on-handle, called-real}
 use Rattle.safety.proofs.Checks.{Caller, caller-of, given-free, given-plain}
@@ -121,24 +121,30 @@ module _ (each : Each-sound) (owned : (m : Lent) → Sound m → (i : ℕ) → i
   unfolding finish clear-pending set-flag with-lent write with-memory owned-by table-byte
   finish-owner caller before a p o = by-test (is-live (record-at (a .after .machine .lent) caller)) (λ t. rw t) (λ t. rw t)
 
+  -- a Delete that was done well is excused for the VMSA that it names
+  deleted-told : (p : ℕ) (g : Registers) (a : Back) → Asks 3 g → p ≡ page-of (g .rcx) → done-well (a .answer) (a .after .registers) ≡ true
+      → deleted-by p g a ≡ true
+  unfolding deleted-by asks-for
+  deleted-told p g a asks here well = simp (eq-eqb _ _ (asks .spoken), eq-eqb _ _ (asks .number), eq-eqb _ _ (sym here), well)
+
+  -- and a Withdraw for a page that is plain after it
+  given-told : (p : ℕ) (g : Registers) (a : Back) → Asks 5 g → owned-by 0 (a .after .machine .lent) p ≡ true
+      → done-well (a .answer) (a .after .registers) ≡ true → given-back-by p g a ≡ true
+  unfolding given-back-by asks-for
+  given-told p g a asks given well = simp (eq-eqb _ _ (asks .spoken), eq-eqb _ _ (asks .number), given, well)
+
   module _ (caller : ℕ) (g : Registers) (m : Machine) (s : Sound (m .lent)) (p : ℕ) (guard : guarded (m .lent) p ≡ true) where
     module _ (good : bad-machine caller (m .lent) ≡ false) (real : no-call caller g (m .lent) ≡ false) where
       excuse-told : Handled-excuse caller g m s p guard (handle caller (record { registers = g; machine = m }) .answer)
           (handle caller (record { registers = g; machine = m }) .after .machine .lent)
           → Excuse p (calls caller g) m
-      unfolding Handled-excuse Excuse deletes gives-back deleted-by given-back-by asks-for
+      unfolding Handled-excuse Excuse deletes gives-back
       excuse-told (done, inl (five, asks, here)) =
-          let told = called-real caller g m good real in
-          inl (
-            five,
-            rw (eq-eqb (protocol g) 0 (asks .spoken), eq-eqb (call-number g) 3 (asks .number), eq-eqb (page-of (g .rcx)) p (sym here), told)
-                (finish-well caller g _ done),
-          )
+          inl (five, rw (called-real caller g m good real) (deleted-told p g _ asks here (finish-well caller g _ done)))
       excuse-told (done, inr (three, asks, given)) =
-          let told = called-real caller g m good real in
           inr (
             three,
-            rw (eq-eqb (protocol g) 0 (asks .spoken), eq-eqb (call-number g) 5 (asks .number), told, finish-owner caller g _ p 0, given) (finish-well caller g _ done),
+            rw (called-real caller g m good real) (given-told p g _ asks (finish-owner caller g _ p 0 ∙ given) (finish-well caller g _ done)),
           )
 
       finish-fate : Caller caller (m .lent)

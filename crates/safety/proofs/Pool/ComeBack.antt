@@ -3,7 +3,7 @@ use mathlib.Core.Path.{_≡_, refl, sym, _∙_, ap}
 use mathlib.Core.Logic.{inl, inr}
 use mathlib.Core.Bool.{true}
 use mathlib.Core.List.{List, [], _∷_}
-use Prim.Native.Nat.{ℕ, zero, suc, _+_, _-_, _*_, _/_, _<_}
+use Prim.Native.Nat.{ℕ, zero, suc, _+_, _-_, _*_, _<_, _≤_}
 use native.Mathlib.Omega.{arith}
 use lib.ListN.{getD}
 use borrow.Author.Tests.{eq-eqb, ltb-true}
@@ -206,16 +206,21 @@ module _ (owned : (m : Lent) → Sound m → (i : ℕ) → i < records → is-li
 
   -- ---- the statement
 
+  -- 510 pages a round are enough for all that are free
+  enough-rounds : (m : Lent) → free m ≤ 510 * rounds m
+  unfolding rounds
+  enough-rounds m = omega arith
+
   -- statement 6
   pub all-come-back-by : All-come-back
-  unfolding All-come-back rounds
+  unfolding All-come-back
   all-come-back-by m others e =
-      let n = (free (m .lent) + 509) / 510 in
+      let n = rounds (m .lent) in
       let s = open-sound (m .lent) e in
       let done = rounds-done n others (m .lent) (m .lent) s refl in
       let c = startup (m .lent) .vmpl in
       let after = run-steps (withdrawals n others (m .lent)) m .lent in
-      let none : free after ≡ 0 = omega (arith, done .left) in
+      let none : free after ≡ 0 = omega (arith, done .left, enough-rounds (m .lent)) in
       record {
         succeeded = done .succeeded;
         counted = omega (arith, done .counted, none);
