@@ -23,7 +23,7 @@ use Rattle.rules.specs.Sound.{table-sized, pages-sized, sound}
 use Rattle.rules.specs.Lists.{list-next, list-entry, read-entry, carry-out-all, store-index, run}
 use Rattle.rules.specs.Call.{Posed}
 use Rattle.rules.specs.Flat.{Buffers, parted, well-sized, sound-bytes, launch-bytes, store-bytes, mark-bytes, call-bytes, door-bytes}
-use Rattle.rules.specs.Runs.{Step, calls, stores, marks, called, step, run-steps, pool, handled-as, head-accepted, taken-in, given-back, over-run}
+use Rattle.rules.specs.Runs.{Step, calls, stores, marks, called, step, run-steps, pool, handled-as, taken-in, given-back, over-run}
 use Rattle.safety.specs.Terms.{Back, deletes, gives-back, all-succeed, Same-page, Kept-page, in-pool, in-use, rounds, withdrawals, Recovered}
 use Rattle.safety.specs.Terms.{unreal, Left-by-gone, refused, Left-by-refusal, covers, covers-valid, second-code, Invalidated-before, Confined}
 use Rattle.safety.specs.Terms.{bytes-back, Act, act, acts, act-deletes, act-gives-back, act-taken-in, act-given-back, over-acts, all-acts-succeed}
@@ -157,7 +157,7 @@ Refusal-law caller g m a = a .answer ≡ Handled → refused (a .after .register
 -- and entry k, one that the index has passed, covers it with wish 1. Then the entry has bit 3, or an earlier one of the same call made the page invalid
 unfoldable pub Validation-law : ℕ → Registers → Lent → Back → Type 0
 Validation-law caller g m a =
-    handled-as 1 g (a .answer) ≡ true → head-accepted (vcpu m caller .vmpl) (g .rcx) m ≡ true
+    handled-as 1 g (a .answer) ≡ true
     → (k p : ℕ) → list-next (g .rcx) m ≤ k → k < list-next (g .rcx) (a .after .machine .lent)
     → bit 2 (list-entry k (g .rcx) m) ≡ true → covers (list-entry k (g .rcx) m) p ≡ true → valid (table-byte m p) ≡ true
     → (bit 3 (list-entry k (g .rcx) m) ≡ true) ⊎ Invalidated-before k p (g .rcx) m

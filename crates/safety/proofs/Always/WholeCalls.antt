@@ -91,7 +91,7 @@ handle-excused caller g m p i asks =
 -- statement 9, of whole calls
 pub validation-of-calls : On-machines Validation-law
 unfolding On-machines Validation-law Excused
-validation-of-calls caller g m handled head k p from passed two covering was =
+validation-of-calls caller g m handled k p from passed two covering was =
     let real = real-call caller g m (handled-real 1 g (called caller g m .answer) handled) in
     let is = called-real caller g m (real .0) (real .1) in
     let asks = handled-asks 1 g (called caller g m .answer) handled in
@@ -101,4 +101,4 @@ validation-of-calls caller g m handled head k p from passed two covering was =
 pub validation-still : (caller : ℕ) (g : Registers) (m : Lent)
     → Validation-law caller g m (record { answer = BadMachine; after = record { registers = g; machine = record { lent = m } } })
 unfolding Validation-law
-validation-still caller g m handled head k p from passed = absurd (omega arith)
+validation-still caller g m handled k p from passed = absurd (omega arith)
