@@ -75,8 +75,12 @@ uint32_t monitor_mark(uint8_t *sheet, size_t sheet_length, size_t record, uint8_
 /*
  * Carries out a call by the vCPU of a record (caller): 0 handled, 1 no call, 2 gone, 3 bad machine.
  *
- * The registers are 48 bytes, eight each, little-endian: RAX, RCX, RDX, R8, R9, and the exit reason. Where it is handled, RAX is the call's code; a code that
- * refuses has changed RAX, bytes 0 and 1 of the calling area and a list's index at most. Where the vCPU deleted itself (gone), the registers are as they were.
+ * The registers are 48 bytes, eight each, little-endian: RAX, RCX, RDX, R8, R9, and the exit reason. Where it is handled, RAX is the call's code and byte 0 of
+ * the caller's calling page (pending) is 0. Where the vCPU deleted itself (gone), the registers and its pending byte are as they were. After both, byte 1 of the
+ * startup's calling page (the flag) is 1 if a pool page is free, else 0.
+ *
+ * A code that refuses, which is any but 0 and 0x80000000 (incomplete), has changed nothing beyond RAX and these two bytes, with one exception: where Pvalidate
+ * or Deposit (call 1 or 4) is refused at an entry of its list, the index of that entry is stored in the list, and the entries done before it stand.
  */
 uint32_t monitor_call(uint8_t *memory, size_t memory_length,
                       uint8_t *table, size_t table_length,

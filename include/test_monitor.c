@@ -1,4 +1,5 @@
-/* The core called from C: the sixteen pages of document 01, a store, a mark, and each of the eight calls. The last line is 'N passed, M failed'. */
+/* The core called from C: the sixteen pages of document 01, a store, a mark, each of the eight calls, and lists that are refused midway. The last line is
+ * 'N passed, M failed'. */
 #include <stdio.h>
 #include <string.h>
 
@@ -77,12 +78,18 @@ static uint32_t call(size_t caller)
     return monitor_call(memory, N * PAGE, table, N, sheet, 512, registers, 48, caller);
 }
 
-/* The startup's call is handled with this code. Beside RAX and the pending byte, it has changed what was written into the buffers' copies. */
-static int handled(uint64_t code)
+/* The call is handled with this code. Beside RAX and the caller's pending byte, it has changed what was written into the buffers' copies. */
+static int handled_by(size_t caller, size_t calling_page, uint64_t code)
 {
     put(registers_before, code);
-    memory_before[10 * PAGE] = 0;
-    return call(0) == HANDLED && unchanged();
+    memory_before[calling_page * PAGE] = 0;
+    return call(caller) == HANDLED && unchanged();
+}
+
+/* The same of the startup's call. */
+static int handled(uint64_t code)
+{
+    return handled_by(0, 10, code);
 }
 
 static void launches(void)
@@ -295,6 +302,42 @@ static void outcomes(void)
     check("gone: the registers and its pending byte stay", call(1) == GONE && unchanged());
 }
 
+/* A list of three entries at 0x1000, the first of them next. */
+static void write_list(uint64_t first, uint64_t second, uint64_t third)
+{
+    put(memory + 0x1000, 3);
+    put(memory + 0x1008, first);
+    put(memory + 0x1010, second);
+    put(memory + 0x1018, third);
+}
+
+/* Lists of another vCPU, refused at the third entry. The pending byte is in its calling page, the flag in the startup's. */
+static void refused_midway(void)
+{
+    write_vmsa(6);
+    ask(2, 0x6000, 0x7000, 5);
+    check("Create of the caller", call(0) == HANDLED);
+
+    write_list(0x2000, 0x3000, 0xB000);
+    memory[0x7000] = memory[0x7001] = 1;
+    memory[0xA001] = 0;
+    ask(4, 0x1000, 0, 0);
+    memory_before[0x1002] = 2;
+    memory_before[0xA001] = 1;
+    table_before[2] = table_before[3] = 0x0B;
+    check("Deposit refused at the third entry: two pages stand in the pool", handled_by(1, 7, ADDRESS));
+
+    write_list(0x9004, 0x8000, 0x9004);
+    memset(memory + 0x9000, 0xEE, PAGE);
+    memory[0x7000] = 1;
+    ask(1, 0x1000, 0, 0);
+    memory_before[0x1002] = 2;
+    memset(memory_before + 0x9000, 0, PAGE);
+    table_before[9] = 0x18;
+    table_before[8] = 0x00;
+    check("Pvalidate refused at the third entry: two pages stand changed", handled_by(1, 7, 0x80001010));
+}
+
 int main(void)
 {
     launches();
@@ -305,6 +348,7 @@ int main(void)
     remaps();
     query_calls();
     outcomes();
+    refused_midway();
     printf("%d passed, %d failed\n", passed, failed);
     return failed == 0 ? 0 : 1;
 }

@@ -222,7 +222,36 @@ pub fn mark(sheet: &mut [u8], record: usize, running: u8) -> Verdict {
 
 /// Carries out a call by the vCPU of a record.
 ///
-/// The registers are 48 bytes, eight each, little-endian: RAX, RCX, RDX, R8, R9, and the exit reason.
+/// The registers are 48 bytes, eight each, little-endian: RAX, RCX, RDX, R8, R9, and the exit reason. Where it is handled, RAX is the call's code and byte 0 of
+/// the caller's calling page (pending) is 0. Where the vCPU deleted itself ([`Outcome::Gone`]), the registers and its pending byte are as they were. After both,
+/// byte 1 of the startup's calling page (the flag) is 1 if a pool page is free, else 0.
+///
+/// A code that refuses, which is any but 0 and 0x80000000 (incomplete), has changed nothing beyond RAX and these two bytes, with one exception: where Pvalidate
+/// or Deposit (call 1 or 4) is refused at an entry of its list, the index of that entry is stored in the list, and the entries done before it stand.
+///
+/// ```
+/// # use monitor::{call, launch, Launched, Outcome, Plan};
+/// # let (mut memory, mut table, mut sheet) = (vec![0; 65536], [0; 16], [0; 512]);
+/// # (memory[0xB0CA], memory[0xB0D1]) = (1, 0x10);
+/// # let (monitor_first, monitor_count) = (12, 4);
+/// # let plan = Plan { pages: 16, monitor_first, monitor_count, vmsa_page: 11, calling_page: 10, apic_id: 0, valid_below: 8 };
+/// # assert_eq!(launch(&mut memory, &mut table, &mut sheet, &plan), Launched::Made);
+/// // The machine above. A list at 0x1000 has three entries: pages 2 and 3, and the VMSA, which is refused.
+/// let list = [3, 0x2000, 0x3000, 0xB000].map(u64::to_le_bytes).concat();
+/// memory[0x1000..0x1020].copy_from_slice(&list);
+/// memory[0xA000] = 1; // pending
+/// let mut registers = [4, 0x1000, 0, 0, 0, 0x403].map(u64::to_le_bytes).concat(); // Deposit
+///
+/// let mut after = (memory.clone(), table, sheet, registers.clone());
+/// after.0[0x1002] = 2; // the index of the refused entry
+/// after.1[2..4].fill(0x0B); // the two before it stand: their pages are in the pool
+/// after.0[0xA000..0xA002].copy_from_slice(&[0, 1]); // pending, and the flag
+/// after.3[..8].copy_from_slice(&0x8000_0003_u64.to_le_bytes()); // RAX: ADDRESS
+///
+/// let outcome = call(&mut memory, &mut table, &mut sheet, &mut registers, 0);
+/// assert_eq!(outcome, Outcome::Handled);
+/// assert!((memory, table, sheet, registers) == after); // and nothing else has changed
+/// ```
 pub fn call(
     memory: &mut [u8],
     table: &mut [u8],
