@@ -1,7 +1,7 @@
-//! Every row of "Sixteen pages", marked or not, and the refusals of each call in their order: the model.
+//! Every row of "Sixteen pages", marked or not, the refusals of each call in their order, lists that stop midway, and callers of each VMPL: the model.
 
 use trials::rows::{Machine, Subject};
-use trials::{refusals, sixteen};
+use trials::{confined, lists, refusals, sixteen};
 
 const MODEL: Subject = Subject { launch, call };
 
@@ -51,4 +51,24 @@ fn unmarked_rows() {
 #[test]
 fn refusals_in_order() {
     refusals::hold(&MODEL);
+}
+
+#[test]
+fn lists_of_33_entries() {
+    lists::of_33_entries(&MODEL);
+}
+
+#[test]
+fn lists_refused_at_each_entry() {
+    lists::refused_at_each_entry(&MODEL);
+}
+
+#[test]
+fn grants_end_at_the_callers_vmpl() {
+    confined::grants(&MODEL);
+}
+
+#[test]
+fn vcpus_of_a_lower_vmpl_are_out_of_reach() {
+    confined::vcpus(&MODEL);
 }

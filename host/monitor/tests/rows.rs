@@ -1,11 +1,12 @@
-//! Every row of "Sixteen pages", marked or not, and the refusals of each call in their order: the core, with guard bytes around each buffer.
+//! Every row of "Sixteen pages", marked or not, the refusals of each call in their order, lists that stop midway, and callers of each
+//! VMPL: the core, with guard bytes around each buffer.
 
 mod common;
 
 use common::{Guarded, BESIDE_OTHERS, BESIDE_TABLE, PAGE};
 use monitor::Plan;
 use trials::rows::{Machine, Subject};
-use trials::{refusals, sixteen};
+use trials::{confined, lists, refusals, sixteen};
 
 const CORE: Subject = Subject { launch, call };
 
@@ -69,6 +70,26 @@ fn unmarked_rows() {
 #[test]
 fn refusals_in_order() {
     refusals::hold(&CORE);
+}
+
+#[test]
+fn lists_of_33_entries() {
+    lists::of_33_entries(&CORE);
+}
+
+#[test]
+fn lists_refused_at_each_entry() {
+    lists::refused_at_each_entry(&CORE);
+}
+
+#[test]
+fn grants_end_at_the_callers_vmpl() {
+    confined::grants(&CORE);
+}
+
+#[test]
+fn vcpus_of_a_lower_vmpl_are_out_of_reach() {
+    confined::vcpus(&CORE);
 }
 
 /// "a size wrong": each of the four buffers, a byte or a page too short or too long.

@@ -1,6 +1,9 @@
-//! What the tests try: numbers at random, the same in every run, calls that a guest might make, and the rows of document 01.
+//! What the tests try: numbers at random, the same in every run, calls that a guest might make, the rows of document 01, lists that stop at each of their
+//! entries, and callers of each VMPL.
 
 mod calls;
+pub mod confined;
+pub mod lists;
 mod random;
 pub mod refusals;
 pub mod rows;

@@ -68,7 +68,7 @@ impl Row {
         self.holds_next(subject, &mut subject.launched(self.pages));
     }
 
-    /// Makes the call on a machine as it is, and compares the outcome and every byte.
+    /// Makes the call on a machine as it is.
     fn holds_next(&self, subject: &Subject, machine: &mut Machine) {
         put(&mut machine.memory, self.memory_before);
         put(&mut machine.table, self.table_before);
@@ -86,15 +86,8 @@ impl Row {
         put(&mut expected.memory, self.memory);
         put(&mut expected.table, self.table);
         put(&mut expected.sheet, self.sheet);
-        let outcome = (subject.call)(machine, self.caller);
         let row = format!("{} {:x?}", self.says, self.asks);
-        assert_eq!(outcome, self.outcome, "{row}");
-        assert_eq!(machine.registers, expected.registers, "{row}");
-        let differs = |at: &usize| machine.memory[*at] != expected.memory[*at];
-        let at = (0..expected.memory.len()).find(differs);
-        assert_eq!(at, None, "a byte of memory, after {row}");
-        assert_eq!(machine.table, expected.table, "{row}");
-        assert_eq!(machine.sheet, expected.sheet, "{row}");
+        subject.leaves(machine, self.caller, self.outcome, &expected, &row);
     }
 }
 
@@ -106,12 +99,48 @@ pub struct Subject {
 }
 
 impl Subject {
-    /// V is 8 of sixteen pages, 1,000 of more.
+    /// V is 8 of sixteen pages, 30 less than N of more.
     pub fn launched(&self, pages: usize) -> Machine {
         let mut machine = Machine::blank(pages);
-        let valid_below = if pages == 16 { 8 } else { 1000 };
+        let valid_below = if pages == 16 { 8 } else { pages - 30 };
         assert_eq!((self.launch)(&mut machine, valid_below), 0);
         machine
+    }
+
+    /// Makes the call, and compares the outcome and every byte.
+    pub fn leaves(
+        &self,
+        machine: &mut Machine,
+        caller: usize,
+        outcome: u32,
+        expected: &Machine,
+        row: &str,
+    ) {
+        assert_eq!((self.call)(machine, caller), outcome, "{row}");
+        assert_eq!(machine.registers, expected.registers, "{row}");
+        let differs = |at: &usize| machine.memory[*at] != expected.memory[*at];
+        let at = (0..expected.memory.len()).find(differs);
+        assert_eq!(at, None, "a byte of memory, after {row}");
+        assert_eq!(machine.table, expected.table, "{row}");
+        assert_eq!(machine.sheet, expected.sheet, "{row}");
+    }
+
+    /// Panics unless a call is handled with this code and, beside RAX and the pending byte, changes just what `changes` does.
+    pub fn handles(
+        &self,
+        machine: &mut Machine,
+        caller: usize,
+        asks: [u64; 4],
+        code: u64,
+        changes: impl Fn(&mut Machine),
+    ) {
+        machine.ask(caller, asks);
+        let mut expected = machine.clone();
+        expected.registers[..8].copy_from_slice(&code.to_le_bytes());
+        expected.memory[machine.calling_place(caller)] = 0;
+        changes(&mut expected);
+        let row = format!("{asks:x?} by record {caller}");
+        self.leaves(machine, caller, 0, &expected, &row);
     }
 
     /// Panics unless the rows hold of it, one after the other on one machine.
@@ -143,6 +172,22 @@ impl Machine {
             table: vec![0; pages],
             sheet: vec![0; 512],
             registers: vec![0; 48],
+        }
+    }
+
+    /// Writes the registers and the pending byte of a call.
+    pub fn ask(&mut self, caller: usize, [rax, rcx, rdx, r8]: [u64; 4]) {
+        let calling = self.calling_place(caller);
+        self.memory[calling] = 1;
+        self.set_registers([rax, rcx, rdx, r8, 0x1234, 0x403]);
+    }
+
+    /// Writes a list whose first entry is next.
+    pub fn write_list(&mut self, gpa: usize, entries: &[u64]) {
+        let head = entries.len() as u64;
+        for (index, word) in [&[head], entries].concat().iter().enumerate() {
+            let at = gpa + 8 * index;
+            self.memory[at..at + 8].copy_from_slice(&word.to_le_bytes());
         }
     }
 

@@ -84,6 +84,21 @@ impl Found {
         }
     }
 
+    /// Whether a call that was made kept within its caller's VMPL: no page has become permitted to a VMPL above it, and no vCPU of one below it came or went.
+    fn is_confined(&self, twins: &Twins) -> bool {
+        let vmpl = self.byte(self.caller, VMPL);
+        let gained = |page: usize| {
+            let (before, after) = (self.table[page], twins.table[page]);
+            (vmpl + 1..=3).any(|above| !permitted(before, above) && permitted(after, above))
+        };
+        let reached = |record: usize| {
+            let (before, after) = (self.record(record), &twins.sheet[RECORD * record..]);
+            let of_one = if before[LIVE] == 1 { before } else { after };
+            before[LIVE] != after[LIVE] && of_one[VMPL] < vmpl
+        };
+        !(0..self.table.len()).any(gained) && !(0..RECORDS).any(reached)
+    }
+
     fn rcx(&self) -> u64 {
         number(&self.registers, RCX, 8)
     }
@@ -92,8 +107,12 @@ impl Found {
         (self.rcx() / PAGE as u64) as usize
     }
 
+    fn record(&self, record: usize) -> &[u8] {
+        &self.sheet[RECORD * record..RECORD * (record + 1)]
+    }
+
     fn byte(&self, record: usize, at: usize) -> u8 {
-        self.sheet[RECORD * record + at]
+        self.record(record)[at]
     }
 
     fn page(&self, record: usize, at: usize) -> usize {
@@ -138,6 +157,7 @@ impl Seen {
         if matches!(outcome, Outcome::NoCall | Outcome::BadMachine) {
             return;
         }
+        assert!(found.is_confined(twins), "by {}", found.caller);
         let mut code = SUCCESS;
         let mut called = number(&found.registers, RAX, 8) as usize;
         if outcome == Outcome::Handled {
@@ -274,8 +294,7 @@ impl Seen {
         let vmpl = twins.sheet[RECORD * record + VMPL];
         let above = vmpl > found.byte(found.caller, VMPL);
         self.note("Create with a VMPL above the caller's", above);
-        let bytes = &found.sheet[RECORD * record..RECORD * (record + 1)];
-        let garbage = bytes.iter().any(|&byte| byte != 0);
+        let garbage = found.record(record).iter().any(|&byte| byte != 0);
         self.note("Create in a record that was not zeros", garbage);
         let page = found.rcx_page();
         let named = [VMSA_PAGE, CALLING_PAGE, POOL_PAGE].map(|at| found.names(page, at));
