@@ -17,7 +17,8 @@ const STEPS_OF_A_RUN: u64 = 300;
 #[test]
 fn runs_stay_sound() {
     let mut random = Random::seeded(1);
-    let steps = steps_or(100_000);
+    const ORDINARY: u64 = 100_000;
+    let steps = steps_or(ORDINARY);
     let mut seen = BTreeMap::new();
     for step in 0..steps.div_ceil(STEPS_OF_A_RUN) {
         let mut machine = fresh(&mut random);
@@ -28,7 +29,7 @@ fn runs_stay_sound() {
         }
     }
     println!("{seen:#?}");
-    if steps >= 100_000 {
+    if steps >= ORDINARY {
         // Each outcome, each call's success and each code that document 01 lists has come up.
         for said in ["outcome 1", "outcome 2", "outcome 3", "store 0", "store 1"] {
             assert!(seen.contains_key(said), "{said}");

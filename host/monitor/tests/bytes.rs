@@ -17,7 +17,8 @@ const STEPS_OF_A_MACHINE: u64 = 30;
 #[test]
 fn bytes_at_random() {
     let mut random = Random::seeded(14);
-    let steps = steps_or(500_000);
+    const ORDINARY: u64 = 500_000;
+    let steps = steps_or(ORDINARY);
     let mut seen = Seen::default();
     let mut wrong_sizes = 0;
     for _ in 0..steps.div_ceil(STEPS_OF_A_MACHINE) {
@@ -31,7 +32,7 @@ fn bytes_at_random() {
         }
     }
     println!("{wrong_sizes} calls with wrong sizes\n{seen}");
-    if steps >= 500_000 {
+    if steps >= ORDINARY {
         assert!(wrong_sizes > 10_000);
         // The machines are too small for these two.
         seen.must(

@@ -26,12 +26,13 @@ fn runs(random: &mut Random, steps: u64, length: u64, pages: fn(&mut Random) -> 
 #[test]
 fn runs_of_small_machines() {
     let mut random = Random::seeded(11);
-    let steps = steps_or(500_000);
+    const ORDINARY: u64 = 500_000;
+    let steps = steps_or(ORDINARY);
     let seen = runs(&mut random, steps, 500, |random| match random.below(3) {
         0 => 48 + random.below(20),
         _ => 6 + random.below(30),
     });
-    if steps >= 100_000 {
+    if steps >= ORDINARY {
         // Only 512 pages can be of unequal validity.
         seen.must(
             &[(1, SIZE_MISMATCH)],
@@ -64,7 +65,8 @@ fn runs_of_small_machines() {
 #[test]
 fn runs_with_entries_of_512_pages() {
     let mut random = Random::seeded(12);
-    let steps = steps_or(1_200_000) / 100;
+    const ORDINARY: u64 = 1_200_000;
+    let steps = steps_or(ORDINARY) / 100;
     let seen = runs(&mut random, steps, 60, |random| match random.below(25) {
         0 => 8192 - random.below(2) * random.below(600),
         1..=3 => 1100 + random.below(1500),
@@ -73,7 +75,7 @@ fn runs_with_entries_of_512_pages() {
         8..=15 => 1024 + random.below(76),
         _ => 513 + random.below(587),
     });
-    if steps >= 12_000 {
+    if steps >= ORDINARY / 100 {
         // These runs are too short for 16 live vCPUs, and most for one that runs.
         seen.must(
             &[(2, REQUEST), (3, IN_USE)],

@@ -17,7 +17,8 @@ const STEPS_OF_A_MACHINE: u64 = 300;
 #[test]
 fn damaged_machines() {
     let mut random = Random::seeded(13);
-    let steps = steps_or(500_000);
+    const ORDINARY: u64 = 500_000;
+    let steps = steps_or(ORDINARY);
     let mut seen = Seen::default();
     for _ in 0..steps.div_ceil(STEPS_OF_A_MACHINE) {
         let mut twins = damaged(&mut random);
@@ -32,7 +33,7 @@ fn damaged_machines() {
         }
     }
     println!("{seen}");
-    if steps >= 100_000 {
+    if steps >= ORDINARY {
         seen.must(&[(1, SIZE_MISMATCH)], &SIGHTS);
     }
 }

@@ -13,7 +13,8 @@ const STEPS_OF_A_MACHINE: u64 = 100;
 #[test]
 fn steps_at_random() {
     let mut random = Random::seeded(5);
-    let steps = steps_or(300_000);
+    const ORDINARY: u64 = 300_000;
+    let steps = steps_or(ORDINARY);
     // How often each answer came.
     let mut launched = [0; 5];
     let mut stored = [0; 2];
@@ -32,7 +33,7 @@ fn steps_at_random() {
         }
     }
     println!("launched {launched:?}, stored {stored:?}, marked {marked:?}");
-    if steps >= 100_000 {
+    if steps >= ORDINARY {
         let often = |answers: &[u64]| answers.iter().all(|&times| times > 1000);
         assert!(often(&launched) && often(&stored) && often(&marked));
     }
