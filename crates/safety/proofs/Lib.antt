@@ -4,6 +4,7 @@ pub mod Branches
 pub mod Effects
 pub mod Entries
 pub mod Checks
+pub mod Keeping
 pub mod Always
 pub mod Sound
 pub mod Kept

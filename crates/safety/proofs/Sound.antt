@@ -12,7 +12,6 @@ pub mod Create
 pub mod Delete
 pub mod Steps
 pub mod Launch
-pub mod Runs
 pub mod Named
 pub mod Said
 pub mod Suffices

@@ -1,14 +1,18 @@
 -- A proof for each statement of specs/Statements.antt, under its number. Nothing is assumed.
-use mathlib.Core.Path.{_≡_}
+use mathlib.Core.Path.{_≡_, refl}
 use mathlib.Core.Bool.{true}
 use Prim.Native.Nat.{ℕ, _<_}
+use Rattle.rules.specs.declared.Outcome.the-variants.{Handled, Gone, BadMachine}
 use Rattle.rules.specs.Words.{records, entries-a-call}
+use Rattle.rules.specs.Answers.{outcome-number}
 use Rattle.rules.specs.Machine.{Lent, is-live, record-at}
 use Rattle.rules.specs.Runs.{run-steps}
 use Rattle.safety.specs.Statements.{Sound-means, Launched-sound, Stays-sound, Sealed, Monitor-kept, Vmsa-kept, Pool-kept, Step-counted, Run-counted}
 use Rattle.safety.specs.Statements.{Counted-from-launch, At-most, At-most-twelve, All-come-back, Unreal-changes-nothing, Unreal-changes-no-byte}
-use Rattle.safety.specs.Statements.{On-machines, Gone-law, Refusal-law, Validation-law, Validated-once, Second-validation-refused, Validated-pages-zero}
-use Rattle.safety.specs.Statements.{Carried-out, Confinement-law, Launched-on-bytes, Runs-on-bytes}
+use Rattle.safety.specs.Statements.{On-machines, On-bytes, Gone-law, Refusal-law, Validation-law, Validated-once, Second-validation-refused}
+use Rattle.safety.specs.Statements.{Validated-pages-zero, Carried-out, Confinement-law, Sizes-kept, Calls-on-bytes, Launched-on-bytes, Runs-on-bytes}
+use Rattle.safety.proofs.Branches.{never}
+use Rattle.safety.proofs.Keeping.{Each-keeps, run-keeps}
 use Rattle.safety.proofs.Sound.Facts.{Sound, open-sound, close-sound}
 use Rattle.safety.proofs.Sound.OnePage.{write-sound}
 use Rattle.safety.proofs.Sound.Rows.{vmsa-owned, calling-owned, pool-owned}
@@ -21,7 +25,6 @@ use Rattle.safety.proofs.Sound.Create.{create-sound}
 use Rattle.safety.proofs.Sound.Launch as Launch
 use Rattle.safety.proofs.Sound.Said.{said}
 use Rattle.safety.proofs.Sound.Suffices.{suffices}
-use Rattle.safety.proofs.Sound.Runs.{Each-sound, stays-sound-by}
 use Rattle.safety.proofs.Kept.Sealed.{sealed-now}
 use Rattle.safety.proofs.Kept.Fates.{Owned}
 use Rattle.safety.proofs.Kept.Steps as Kept
@@ -35,10 +38,12 @@ use Rattle.safety.proofs.Always.Refusal as Refusal
 use Rattle.safety.proofs.Always.SecondValidation as Second
 use Rattle.safety.proofs.Always.WholeCalls as Whole
 use Rattle.safety.proofs.Always.Confined as Confined
-use Rattle.safety.proofs.Bytes.{launched-on-bytes-by, runs-on-bytes-by}
+use Rattle.safety.proofs.Bytes.Sizes as Sizes
+use Rattle.safety.proofs.Bytes.Calls as Calls
+use Rattle.safety.proofs.Bytes.Steps.{launched-on-bytes-by, runs-on-bytes-by}
 
 -- each call and each other step keeps a machine sound
-each-sound : Each-sound
+each-sound : Each-keeps Sound
 each-sound =
     record {
       remaps = λ caller rcx m s c. remap-sound caller rcx m s (c .below) (c .live);
@@ -65,7 +70,8 @@ launched-sound = Launch.launched-sound
 
 -- 1
 pub stays-sound : Stays-sound
-stays-sound = stays-sound-by each-sound
+unfolding Stays-sound
+stays-sound ss m e = close-sound _ (run-keeps Sound each-sound ss m (open-sound _ e))
 
 -- 2
 pub sealed : Sealed
@@ -120,9 +126,17 @@ unreal-changes-no-byte = Unreal.unreal-changes-no-byte
 pub gone-leaves : On-machines Gone-law
 gone-leaves = Gone.gone-leaves
 
+pub gone-on-bytes : On-bytes Gone-law
+unfolding Gone-law outcome-number
+gone-on-bytes = Calls.on-bytes Gone-law (λ caller g m e. never BadMachine Gone refl e) gone-leaves
+
 -- 8
 pub refusal-leaves : On-machines Refusal-law
 refusal-leaves = Refusal.refusal-leaves
+
+pub refusal-on-bytes : On-bytes Refusal-law
+unfolding Refusal-law outcome-number
+refusal-on-bytes = Calls.on-bytes Refusal-law (λ caller g m e. never BadMachine Handled refl e) refusal-leaves
 
 -- 9
 pub validation-of-calls : On-machines Validation-law
@@ -148,6 +162,12 @@ pub confined : On-machines Confinement-law
 confined = Confined.confined
 
 -- on the lent bytes
+pub sizes-kept : Sizes-kept
+sizes-kept = Sizes.sizes-kept
+
+pub calls-on-bytes : Calls-on-bytes
+calls-on-bytes = Calls.calls-on-bytes
+
 pub launched-on-bytes : Launched-on-bytes
 launched-on-bytes = launched-on-bytes-by launched-sound
 

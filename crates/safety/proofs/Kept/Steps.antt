@@ -29,7 +29,7 @@ use Rattle.safety.proofs.Checks.{Caller, caller-of, given-free, given-p
 use Rattle.safety.proofs.Sound.Facts.{Sound, open-sound}
 use Rattle.safety.proofs.Sound.Sizes.{sheet-length}
 use Rattle.safety.proofs.Sound.Rows.{startup-lives}
-use Rattle.safety.proofs.Sound.Runs.{Each-sound, handle-sound}
+use Rattle.safety.proofs.Keeping.{Each-keeps, handle-keeps}
 use Rattle.safety.proofs.Pool.Counts.{pooled, in-pool-owner}
 use Rattle.safety.proofs.Kept.Sealed.{sealed-page}
 use Rattle.safety.proofs.Kept.Untouched.{Untouched, untouched-here, untouched-twice, write-elsewhere, amend-leaves, guarded}
@@ -48,7 +48,7 @@ pool-guards m p e =
     let b = table-byte m p in
     by-test (eqb (owner b) 3) (λ t. rw (eqb-true (owner b) 3 t)) (λ t. rw (eqb-true (owner b) 4 (rw t at e)))
 
-module _ (each : Each-sound) (owned : (m : Lent) → Sound m → (i : ℕ) → i < records → is-live (record-at m i) ≡ true → Owned i m) where
+module _ (each : Each-keeps Sound) (owned : (m : Lent) → Sound m → (i : ℕ) → i < records → is-live (record-at m i) ≡ true → Owned i m) where
   module _ (caller : ℕ) (g : Registers) (m : Machine) (s : Sound (m .lent)) (p : ℕ) (guard : guarded (m .lent) p ≡ true) where
     -- the same of a call that was handled with this answer
     Handled-excuse : Code → Lent → Type 0
@@ -155,10 +155,10 @@ module _ (each : Each-sound) (owned : (m : Lent) → Sound m → (i : ℕ) → i
       unfolding guarded
       finish-fate c (same h) =
           then-untouched (same h)
-          (finish-leaves caller g _ (handle-sound each caller g m s c) (c .below) p (rw (h .byte) guard))
+          (finish-leaves caller g _ (handle-keeps Sound each caller g m s c) (c .below) p (rw (h .byte) guard))
       finish-fate c (turned h before after) =
           then-untouched (turned h before after)
-          (finish-leaves caller g _ (handle-sound each caller g m s c) (c .below) p (pool-guards _ p after))
+          (finish-leaves caller g _ (handle-keeps Sound each caller g m s c) (c .below) p (pool-guards _ p after))
       finish-fate c (excused e) = excused (excuse-told e)
 
     -- a call

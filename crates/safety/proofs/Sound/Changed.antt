@@ -4,17 +4,16 @@ use mathlib.Core.Bool.{true, false}
 use mathlib.Core.List.{List, []}
 use Prim.Native.Nat.{ℕ, _<_, _≤_}
 use lib.Dec.{eqb}
-use lib.ListN.{length, set, length-set}
+use lib.ListN.{length, set}
 use lib.Seq.{getD-set-same, getD-set-other}
-use borrow.Author.Tests.{eqb-true, eqb-false, eq-eqb}
+use borrow.Author.Tests.{eqb-true, eqb-false}
 use Rattle.rules.specs.declared.Vcpu.{Vcpu}
 use Rattle.rules.specs.Words.{records, record-size, count}
 use Rattle.rules.specs.Machine.{Lent, N, table-byte, fields, is-live, record-at, vcpu, startup}
-use Rattle.rules.specs.Sound.{claims, record-fault, table-sized, pages-sized}
+use Rattle.rules.specs.Sound.{claims, record-fault, pages-sized}
 use Rattle.laws.proofs.Ranges.{by-test}
-use Rattle.safety.proofs.Small.{every-set}
 use Rattle.safety.proofs.Sound.Facts.{Page-right, Sound}
-use Rattle.safety.proofs.Sound.Sizes.{table-sizes, in-sheet}
+use Rattle.safety.proofs.Sound.Sizes.{in-sheet, tables-kept}
 use Rattle.safety.proofs.Sound.Rows.{has-apic, renewed, row-renewed, open-row, close-row, open-dead, close-dead, dead-zeros, row-right, count-kept}
 
 -- a record that is not the first leaves the startup's
@@ -24,14 +23,6 @@ startup-other m after i r ne sheets = rw (sheets, getD-set-other (m .sheet) i 0 
 
 module _ (m after : Lent) (s : Sound m) (i : ℕ) (r : List ℕ) (h : i < records) (sheets : after .sheet ≡ set (m .sheet) i r)
     (sizes : N after ≡ N m) (size : length r ≡ record-size) (same : startup after .vmpl ≡ startup m .vmpl) where
-  -- the sizes stay right
-  changed-tables : table-sized after ≡ true
-  unfolding table-sized
-  changed-tables =
-      let was = table-sizes m (s .tables) in
-      rw (sizes, sheets, was .0, length-set (m .sheet) i r, was .1)
-      (every-set (λ r. eqb (length r) record-size) (m .sheet) i r (was .2) (λ k. eq-eqb _ _ size))
-
   -- a record elsewhere
   record-elsewhere : (j : ℕ) → (j ≡ i → ⊥) → record-at after j ≡ record-at m j
   unfolding record-at
@@ -65,7 +56,7 @@ module _ (m after : Lent) (s : Sound m) (i : ℕ) (r : List ℕ) (h : i < record
   unfolding table-byte
   changed-sound memories right row counted =
       record {
-        tables = changed-tables;
+        tables = tables-kept m (s .tables) after i r sheets sizes (λ k. size);
         memories = memories;
         pages = λ p b. rw (same, sheets) (right p (rw sizes at b));
         rows = λ j k. by-test (eqb j i) (λ t. rw (eqb-true j i t) row)

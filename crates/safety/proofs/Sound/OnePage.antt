@@ -1,5 +1,5 @@
 -- A change of memory, or of one page's table byte, that leaves a sound machine sound; and which table bytes are right.
-use mathlib.Core.Path.{_≡_, refl, _∙_}
+use mathlib.Core.Path.{_≡_, _∙_}
 use mathlib.Core.Bool.{true, false, and-false, or-true}
 use mathlib.Core.List.{List, []}
 use Prim.Native.Nat.{ℕ, _<_, _≤_}
@@ -15,7 +15,7 @@ use Rattle.laws.proofs.Ranges.{by-test}
 use Rattle.laws.proofs.TableByte.{byte·simp, owner-own, valid-own, permitted-own, permissions-own}
 use Rattle.safety.proofs.Effects.{put-same, put-other, put-N}
 use Rattle.safety.proofs.Sound.Facts.{Page-right, Sound}
-use Rattle.safety.proofs.Sound.Sizes.{pages-kept, written-sized, filled-sized}
+use Rattle.safety.proofs.Sound.Sizes.{written-sized, filled-sized, sizes-of, put-sized}
 use Rattle.safety.proofs.Sound.Claims.{nameable, unclaimed}
 
 -- ---- memory
@@ -38,14 +38,6 @@ fill-sound p m s = changed-memory m (set (m .memory) p (zeros page-size)) s (fil
 -- ---- one table byte
 
 module _ (m : Lent) (p b : ℕ) where
-  tables-kept : table-sized m ≡ true → table-sized (put p b m) ≡ true
-  unfolding table-sized put
-  tables-kept e = rw (put-N m p b) e
-
-  memories-kept : pages-sized m ≡ true → pages-sized (put p b m) ≡ true
-  unfolding put
-  memories-kept e = pages-kept m e (put p b m) refl (put-N m p b)
-
   rows-kept : (i : ℕ) → record-fault m i ≡ false → record-fault (put p b m) i ≡ false
   unfolding record-fault live-fault startup vcpu record-at put
   rows-kept i e = rw (put-N m p b) e
@@ -57,9 +49,10 @@ module _ (m : Lent) (p b : ℕ) where
   -- a page may take a byte that is right for what is claimed of it; past the table's end nothing is put
   pub put-sound : Sound m → (p < N m → Page-right (startup m .vmpl) (claims (m .sheet) p) b) → Sound (put p b m)
   put-sound s h =
+      let still = put-sized p b m (sizes-of s) in
       record {
-        tables = tables-kept (s .tables);
-        memories = memories-kept (s .memories);
+        tables = still .tables;
+        memories = still .memories;
         pages = λ q l.
             let inside : q < N m = rw (put-N m p b) at l in
             by-test (eqb q p)

@@ -1,18 +1,20 @@
 -- What the right sizes of a machine say of its table, its sheet and its memory; and what keeps them right.
-use mathlib.Core.Path.{_≡_, _∙_}
+use mathlib.Core.Path.{_≡_, refl, _∙_}
 use mathlib.Core.Bool.{true, _&&_, and-eq-true-iff}
-use mathlib.Core.List.{List, []}
+use mathlib.Core.List.{List, [], _∷_}
 use Prim.Native.Nat.{ℕ, _<_, _≤_}
 use lib.Dec.{leb, eqb}
 use lib.ListN.{length, getD, set, length-set}
 use lib.Seq.{sets, length-sets}
 use borrow.Author.Tests.{eqb-true, leb-true, eq-eqb}
-use Rattle.rules.specs.Words.{page-size, least-pages, most-pages, records, record-size, between, every}
-use Rattle.rules.specs.Machine.{Lent, N, page-at, with-memory, written, write, zeros, fill, record-at}
+use Rattle.rules.specs.Words.{page-size, least-pages, most-pages, records, record-size, between, every, each}
+use Rattle.rules.specs.Machine.{Lent, N, page-at, with-memory, written, write, zeros, fill, put, change, record-at, amend}
 use Rattle.rules.specs.Sound.{table-sized, pages-sized}
 use Rattle.laws.proofs.Numbers.{length-zeros}
 use Rattle.laws.proofs.Ranges.{every→}
 use Rattle.safety.proofs.Small.{every-set}
+use Rattle.safety.proofs.Effects.{put-N}
+use Rattle.safety.proofs.Sound.Facts.{Sound}
 
 -- ---- table and sheet
 
@@ -50,6 +52,14 @@ module _ (m : Lent) (e : table-sized m ≡ true) where
   pub record-length : (i : ℕ) → i < records → length (record-at m i) ≡ record-size
   unfolding record-at
   record-length i h = eqb-true _ _ (every→ (λ r. eqb (length r) record-size) (m .sheet) i [] (table-sizes .2) (in-sheet h))
+
+  -- one record set to another of right size, and as many pages
+  pub tables-kept : (after : Lent) (i : ℕ) (r : List ℕ) → after .sheet ≡ set (m .sheet) i r → N after ≡ N m → (i < records → length r ≡ record-size)
+      → table-sized after ≡ true
+  unfolding table-sized
+  tables-kept after i r sheets n size =
+      rw (n, sheets, table-sizes .0, length-set (m .sheet) i r, table-sizes .1)
+      (every-set (λ r. eqb (length r) record-size) (m .sheet) i r (table-sizes .2) (λ k. eq-eqb _ _ (size (rw sheet-length at k))))
 
 -- ---- memory
 
@@ -93,3 +103,50 @@ module _ (m : Lent) (e : pages-sized m ≡ true) where
   pub filled-sized : (p : ℕ) → pages-sized (fill p m) ≡ true
   unfolding fill
   filled-sized p = page-set-sized p (zeros page-size) (λ h. length-zeros page-size)
+
+-- ---- both
+
+-- a machine of right size
+pub record Sized (m : Lent) : Type 0 where
+  pub tables : table-sized m ≡ true
+  pub memories : pages-sized m ≡ true
+
+-- as a sound one is
+pub sizes-of : {m : Lent} → Sound m → Sized m
+sizes-of s = record { tables = s .tables; memories = s .memories }
+
+-- it stays so after a write
+pub write-sized : (p offset : ℕ) (bytes : List ℕ) (m : Lent) → Sized m → Sized (write p offset bytes m)
+unfolding table-sized write with-memory N
+write-sized p offset bytes m s = record { tables = s .tables; memories = written-sized m (s .memories) p offset bytes }
+
+-- a page filled with zeros
+pub fill-sized : (p : ℕ) (m : Lent) → Sized m → Sized (fill p m)
+unfolding table-sized fill with-memory N
+fill-sized p m s = record { tables = s .tables; memories = filled-sized m (s .memories) p }
+
+-- a table byte put
+pub put-sized : (p b : ℕ) (m : Lent) → Sized m → Sized (put p b m)
+unfolding table-sized put
+put-sized p b m s = record { tables = rw (put-N m p b) (s .tables); memories = pages-kept m (s .memories) (put p b m) refl (put-N m p b) }
+
+pub change-sized : (f : ℕ → ℕ) (p : ℕ) (m : Lent) → Sized m → Sized (change f p m)
+unfolding change
+change-sized f p m s = put-sized p _ m s
+
+-- a record amended, if that keeps its size
+pub amend-sized : (f : List ℕ → List ℕ) (i : ℕ) (m : Lent) → ((r : List ℕ) → length r ≡ record-size → length (f r) ≡ record-size) → Sized m
+    → Sized (amend f i m)
+unfolding amend N pages-sized
+amend-sized f i m keeps s =
+    record {
+      tables = tables-kept m (s .tables) (amend f i m) i (f (record-at m i)) refl refl (λ h. keeps _ (record-length m (s .tables) i h));
+      memories = s .memories;
+    }
+
+-- and an effect for each number of a list, if each keeps it
+pub each-sized : (effect : ℕ → Lent → Lent) → ((p : ℕ) (m : Lent) → Sized m → Sized (effect p m)) → (ps : List ℕ) (m : Lent) → Sized m
+    → Sized (each effect ps m)
+unfolding each
+each-sized effect keeps [] m s = s
+each-sized effect keeps (p ∷ ps) m s = each-sized effect keeps ps (effect p m) (keeps p m s)

@@ -1,0 +1,102 @@
+-- From bytes that are a sound machine, each step on bytes is the step on the machine that they are; and a launch that is made on bytes gives a sound machine.
+use mathlib.Core.Path.{_≡_, refl, sym, _∙_, ap}
+use mathlib.Core.Bool.{true, _&&_, and-eq-true-iff}
+use mathlib.Core.List.{List, [], _∷_}
+use Prim.Native.Nat.{ℕ}
+use native.Mathlib.Omega.{arith}
+use lib.Dec.{eqb}
+use lib.ListN.{length}
+use Rattle.rules.specs.declared.Registers.{Registers}
+use Rattle.rules.specs.declared.Launched.the-variants.{WrongSize}
+use Rattle.rules.specs.Answers.{refuse, launched-number}
+use Rattle.rules.specs.Machine.{Lent, with-lent, N, below, with-memory, write, table-byte, record-at, amend}
+use Rattle.rules.specs.Steps.{may-store, store, may-mark, mark}
+use Rattle.rules.specs.Sound.{sound}
+use Rattle.rules.specs.Flat.{Buffers, join, parted, joined, well-sized, sound-bytes, launch-bytes, store-bytes, mark-bytes, call-bytes}
+use Rattle.rules.specs.Runs.{Step, calls, stores, marks, called, step, run-steps}
+use Rattle.laws.proofs.Ranges.{by-test}
+use Rattle.laws.proofs.FlatSteps.{join-memory, join-sheet}
+use Rattle.safety.specs.Statements.{step-bytes, run-bytes, Launched-sound, Stays-sound, Launched-on-bytes, Runs-on-bytes}
+use Rattle.safety.proofs.Checks.{not-made}
+use Rattle.safety.proofs.Sound.Facts.{open-sound}
+use Rattle.safety.proofs.Sound.Sizes.{sizes-of}
+use Rattle.safety.proofs.Bytes.Parted.{parted-joined, sound-joined, both-sized, parted-sized}
+
+-- a store leaves table and sheet, a mark memory and table
+store-leaves : (c p offset : ℕ) (bytes : List ℕ) (m : Lent)
+    → (store c p offset bytes m .after .table ≡ m .table) × (store c p offset bytes m .after .sheet ≡ m .sheet)
+unfolding store refuse write with-memory
+store-leaves c p offset bytes m = by-test (may-store c p offset (length bytes) m) (λ t. rw t (refl, refl)) (λ t. rw t (refl, refl))
+
+mark-leaves : (i value : ℕ) (m : Lent) → (mark i value m .after .memory ≡ m .memory) × (mark i value m .after .table ≡ m .table)
+unfolding mark refuse amend
+mark-leaves i value m = by-test (may-mark i value m) (λ t. rw t (refl, refl)) (λ t. rw t (refl, refl))
+
+module _ (b : Buffers) (w : well-sized b ≡ true) where
+  call-step : (caller : ℕ) (g : Registers)
+      → call-bytes caller (record { registers = g; machine = b }) .after .machine ≡ joined (called caller g (record { lent = parted b }) .after .machine .lent)
+  unfolding call-bytes called refuse
+  call-step caller g = rw w
+
+  store-step : (c p offset : ℕ) (bytes : List ℕ)
+      → store-bytes c p offset bytes (b .table) (b .memory) .after ≡ join (store c p offset bytes (parted b) .after .memory)
+  unfolding store-bytes store refuse parted may-store below N table-byte write with-memory
+  store-step c p offset bytes =
+      rw (both-sized b w .0)
+      (by-test (may-store c p offset (length bytes) (parted b)) (λ t. rw t) (λ t. rw t))
+
+  mark-step : (i value : ℕ) → mark-bytes i value (b .sheet) .after ≡ join (mark i value (parted b) .after .sheet)
+  unfolding mark-bytes mark refuse parted may-mark record-at amend
+  mark-step i value = rw (both-sized b w .1) (by-test (may-mark i value (parted b)) (λ t. rw t) (λ t. rw t))
+
+  -- each step on bytes is the step on the machine, joined
+  bytes-step : (s : Step) → step-bytes s b ≡ joined (step s (record { lent = parted b }) .lent)
+  unfolding step-bytes step joined with-lent parted
+  bytes-step (calls caller g) = call-step caller g
+  bytes-step (stores c p offset bytes) =
+      λ i. record {
+        memory = store-step c p offset bytes i;
+        table = sym (store-leaves c p offset bytes (parted b) .0) i;
+        sheet = sym (ap join (store-leaves c p offset bytes (parted b) .1) ∙ join-sheet (b .sheet) (both-sized b w .1)) i;
+      }
+  bytes-step (marks j value) =
+      λ i. record {
+        memory = sym (ap join (mark-leaves j value (parted b) .0) ∙ join-memory (b .table) (b .memory) (both-sized b w .0)) i;
+        table = sym (mark-leaves j value (parted b) .1) i;
+        sheet = mark-step j value i;
+      }
+
+-- a sound machine's bytes after a step: sound, and the machine after it
+module _ (kept : Stays-sound) where
+  pub step-agrees : (s : Step) (b : Buffers) → sound-bytes b ≡ true
+      → (sound-bytes (step-bytes s b) ≡ true) × (parted (step-bytes s b) ≡ step s (record { lent = parted b }) .lent)
+  unfolding sound-bytes Stays-sound run-steps
+  step-agrees s b e =
+      let both = and-eq-true-iff (well-sized b) (sound (parted b)) .0 e in
+      let after = step s (record { lent = parted b }) .lent in
+      let fine : sound after ≡ true = kept (s ∷ []) (record { lent = parted b }) (both .1) in
+      let same = bytes-step b (both .0) s in
+      (ap sound-bytes same ∙ sound-joined after fine, ap parted same ∙ parted-joined after (sizes-of (open-sound after fine)))
+
+  -- from bytes that are a sound machine, a run on bytes is the run of that machine
+  pub runs-on-bytes-by : Runs-on-bytes
+  unfolding Runs-on-bytes run-bytes run-steps
+  runs-on-bytes-by [] b e = (e, refl)
+  runs-on-bytes-by (s ∷ ss) b e =
+      let one = step-agrees s b e in
+      let rest = runs-on-bytes-by ss (step-bytes s b) (one .0) in
+      (rest .0, rest .1 ∙ ap (λ m. run-steps ss (record { lent = m }) .lent) (one .1))
+
+-- ---- launch
+
+module _ (made : Launched-sound) where
+  -- a launch that is made on bytes gives a sound machine
+  pub launched-on-bytes-by : Launched-on-bytes
+  unfolding Launched-on-bytes Launched-sound launch-bytes refuse launched-number
+  launched-on-bytes-by n plan b e =
+      by-test (well-sized b && eqb n (length (b .table)))
+      (λ t.
+      let w = and-eq-true-iff (well-sized b) (eqb n (length (b .table))) .0 t .0 in
+      let sizes = parted-sized b w in
+      rw t (sound-joined _ (made plan (record { lent = parted b }) (sizes .tables) (sizes .memories) (rw t at e))))
+      (λ t. not-made WrongSize (omega arith) (rw t at e))
