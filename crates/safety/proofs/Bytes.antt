@@ -3,3 +3,6 @@ pub mod Sizes
 pub mod Parted
 pub mod Calls
 pub mod Steps
+pub mod Door
+pub mod Acts
+pub mod Demand

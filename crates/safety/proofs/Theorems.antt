@@ -7,7 +7,8 @@ use Rattle.rules.specs.Words.{records, entries-a-call}
 use Rattle.rules.specs.Answers.{outcome-number}
 use Rattle.rules.specs.Machine.{Lent, is-live, record-at}
 use Rattle.rules.specs.Runs.{run-steps}
-use Rattle.safety.specs.Statements.{Sound-means, Launched-sound, Stays-sound, Sealed, Monitor-kept, Vmsa-kept, Pool-kept, Step-counted, Run-counted}
+use Rattle.safety.specs.Statements.{Demand-3, Sound-means, Launched-sound, Stays-sound, Sealed, Monitor-kept, Vmsa-kept, Pool-kept, Step-counted}
+use Rattle.safety.specs.Statements.{Run-counted}
 use Rattle.safety.specs.Statements.{Counted-from-launch, At-most, At-most-twelve, All-come-back, Unreal-changes-nothing, Unreal-changes-no-byte}
 use Rattle.safety.specs.Statements.{On-machines, On-bytes, Gone-law, Refusal-law, Validation-law, Validated-once, Second-validation-refused}
 use Rattle.safety.specs.Statements.{Validated-pages-zero, Carried-out, Confinement-law, Sizes-kept, Calls-on-bytes, Launched-on-bytes, Runs-on-bytes}
@@ -41,6 +42,7 @@ use Rattle.safety.proofs.Always.Confined as Confined
 use Rattle.safety.proofs.Bytes.Sizes as Sizes
 use Rattle.safety.proofs.Bytes.Calls as Calls
 use Rattle.safety.proofs.Bytes.Steps.{launched-on-bytes-by, runs-on-bytes-by}
+use Rattle.safety.proofs.Bytes.Demand.{demand-3-by}
 
 -- each call and each other step keeps a machine sound
 each-sound : Each-keeps Sound
@@ -173,3 +175,16 @@ launched-on-bytes = launched-on-bytes-by launched-sound
 
 pub runs-on-bytes : Runs-on-bytes
 runs-on-bytes = runs-on-bytes-by stays-sound
+
+-- demand 3, whole
+pub demand-3 : Demand-3
+demand-3 =
+    demand-3-by (record {
+      launched = launched-sound;
+      stays-sound = stays-sound;
+      monitor-kept = monitor-kept;
+      vmsa-kept = vmsa-kept;
+      pool-kept = pool-kept;
+      run-counted = run-counted;
+      come-back = all-come-back;
+    })

@@ -7,19 +7,23 @@ use native.Mathlib.Omega.{arith}
 use lib.Dec.{eqb}
 use lib.ListN.{length}
 use Rattle.rules.specs.declared.Registers.{Registers}
-use Rattle.rules.specs.declared.Launched.the-variants.{WrongSize}
-use Rattle.rules.specs.Answers.{refuse, launched-number}
-use Rattle.rules.specs.Machine.{Lent, with-lent, N, below, with-memory, write, table-byte, record-at, amend}
+use Rattle.rules.specs.declared.Launched.{Launched}
+use Rattle.rules.specs.declared.Launched.the-variants.{Made, WrongSize}
+use Rattle.rules.specs.declared.Plan.{Plan}
+use Rattle.rules.specs.Answers.{Answered, refuse, launched-number}
+use Rattle.rules.specs.Machine.{Lent, Machine, with-lent, N, below, with-memory, write, table-byte, record-at, amend}
+use Rattle.rules.specs.Launch.{launch}
 use Rattle.rules.specs.Steps.{may-store, store, may-mark, mark}
 use Rattle.rules.specs.Sound.{sound}
 use Rattle.rules.specs.Flat.{Buffers, join, parted, joined, well-sized, sound-bytes, launch-bytes, store-bytes, mark-bytes, call-bytes}
-use Rattle.rules.specs.Runs.{Step, calls, stores, marks, called, step, run-steps}
+use Rattle.rules.specs.Runs.{Step, calls, stores, marks, called, step, run-steps, pool}
 use Rattle.laws.proofs.Ranges.{by-test}
 use Rattle.laws.proofs.FlatSteps.{join-memory, join-sheet}
 use Rattle.safety.specs.Statements.{step-bytes, run-bytes, Launched-sound, Stays-sound, Launched-on-bytes, Runs-on-bytes}
 use Rattle.safety.proofs.Checks.{not-made}
 use Rattle.safety.proofs.Sound.Facts.{open-sound}
 use Rattle.safety.proofs.Sound.Sizes.{sizes-of}
+use Rattle.safety.proofs.Pool.Runs.{launched-empty}
 use Rattle.safety.proofs.Bytes.Parted.{parted-joined, sound-joined, both-sized, parted-sized}
 
 -- a store leaves table and sheet, a mark memory and table
@@ -33,21 +37,26 @@ unfolding mark refuse amend
 mark-leaves i value m = by-test (may-mark i value m) (λ t. rw t (refl, refl)) (λ t. rw t (refl, refl))
 
 module _ (b : Buffers) (w : well-sized b ≡ true) where
-  call-step : (caller : ℕ) (g : Registers)
+  -- a call
+  pub call-step : (caller : ℕ) (g : Registers)
       → call-bytes caller (record { registers = g; machine = b }) .after .machine ≡ joined (called caller g (record { lent = parted b }) .after .machine .lent)
   unfolding call-bytes called refuse
   call-step caller g = rw w
 
-  store-step : (c p offset : ℕ) (bytes : List ℕ)
-      → store-bytes c p offset bytes (b .table) (b .memory) .after ≡ join (store c p offset bytes (parted b) .after .memory)
+  -- a store, with its answer
+  pub store-told : (c p offset : ℕ) (bytes : List ℕ)
+      → store-bytes c p offset bytes (b .table) (b .memory)
+      ≡ record { answer = store c p offset bytes (parted b) .answer; after = join (store c p offset bytes (parted b) .after .memory) }
   unfolding store-bytes store refuse parted may-store below N table-byte write with-memory
-  store-step c p offset bytes =
+  store-told c p offset bytes =
       rw (both-sized b w .0)
       (by-test (may-store c p offset (length bytes) (parted b)) (λ t. rw t) (λ t. rw t))
 
-  mark-step : (i value : ℕ) → mark-bytes i value (b .sheet) .after ≡ join (mark i value (parted b) .after .sheet)
+  -- and a mark
+  pub mark-told : (i value : ℕ)
+      → mark-bytes i value (b .sheet) ≡ record { answer = mark i value (parted b) .answer; after = join (mark i value (parted b) .after .sheet) }
   unfolding mark-bytes mark refuse parted may-mark record-at amend
-  mark-step i value = rw (both-sized b w .1) (by-test (may-mark i value (parted b)) (λ t. rw t) (λ t. rw t))
+  mark-told i value = rw (both-sized b w .1) (by-test (may-mark i value (parted b)) (λ t. rw t) (λ t. rw t))
 
   -- each step on bytes is the step on the machine, joined
   bytes-step : (s : Step) → step-bytes s b ≡ joined (step s (record { lent = parted b }) .lent)
@@ -55,7 +64,7 @@ module _ (b : Buffers) (w : well-sized b ≡ true) where
   bytes-step (calls caller g) = call-step caller g
   bytes-step (stores c p offset bytes) =
       λ i. record {
-        memory = store-step c p offset bytes i;
+        memory = store-told c p offset bytes i .after;
         table = sym (store-leaves c p offset bytes (parted b) .0) i;
         sheet = sym (ap join (store-leaves c p offset bytes (parted b) .1) ∙ join-sheet (b .sheet) (both-sized b w .1)) i;
       }
@@ -63,7 +72,7 @@ module _ (b : Buffers) (w : well-sized b ≡ true) where
       λ i. record {
         memory = sym (ap join (mark-leaves j value (parted b) .0) ∙ join-memory (b .table) (b .memory) (both-sized b w .0)) i;
         table = sym (mark-leaves j value (parted b) .1) i;
-        sheet = mark-step j value i;
+        sheet = mark-told j value i .after;
       }
 
 -- a sound machine's bytes after a step: sound, and the machine after it
@@ -89,14 +98,38 @@ module _ (kept : Stays-sound) where
 
 -- ---- launch
 
-module _ (made : Launched-sound) where
-  -- a launch that is made on bytes gives a sound machine
-  pub launched-on-bytes-by : Launched-on-bytes
-  unfolding Launched-on-bytes Launched-sound launch-bytes refuse launched-number
-  launched-on-bytes-by n plan b e =
-      by-test (well-sized b && eqb n (length (b .table)))
-      (λ t.
-      let w = and-eq-true-iff (well-sized b) (eqb n (length (b .table))) .0 t .0 in
-      let sizes = parted-sized b w in
-      rw t (sound-joined _ (made plan (record { lent = parted b }) (sizes .tables) (sizes .memories) (rw t at e))))
-      (λ t. not-made WrongSize (omega arith) (rw t at e))
+-- one that is made on bytes was lent well-sized ones, and is the launch on the machine that they are
+launch-told : (n : ℕ) (plan : Plan) (b : Buffers) → launch-bytes n plan b .answer ≡ Made →
+    let l = launch plan (record { lent = parted b }) in
+    (well-sized b ≡ true) × (launch-bytes n plan b ≡ record { answer = l .answer; after = joined (l .after .lent) })
+unfolding launch-bytes refuse launched-number
+launch-told n plan b e =
+    by-test (well-sized b && eqb n (length (b .table)))
+    (λ t. (and-eq-true-iff (well-sized b) (eqb n (length (b .table))) .0 t .0, rw t))
+    (λ t. not-made WrongSize (omega arith) (rw t at e))
+
+module _ (made : Launched-sound) (n : ℕ) (plan : Plan) (b : Buffers) (e : launch-bytes n plan b .answer ≡ Made) where
+  abbrev launched : Answered Launched Machine
+  launched = launch plan (record { lent = parted b })
+
+  made-there : launched .answer ≡ Made
+  made-there = sym (ap (λ a. a .answer) (launch-told n plan b e .1)) ∙ e
+
+  sound-there : sound (launched .after .lent) ≡ true
+  unfolding Launched-sound
+  sound-there =
+      let sizes = parted-sized b (launch-told n plan b e .0) in
+      made plan (record { lent = parted b }) (sizes .tables) (sizes .memories) made-there
+
+  -- it gives a sound machine
+  pub launch-sound : sound-bytes (launch-bytes n plan b .after) ≡ true
+  launch-sound = rw (launch-told n plan b e .1) (sound-joined _ sound-there)
+
+  -- whose pool is empty
+  pub launch-empty : pool (parted (launch-bytes n plan b .after)) ≡ 0
+  launch-empty =
+      rw (launch-told n plan b e .1, parted-joined _ (sizes-of (open-sound _ sound-there))) (launched-empty plan (record { lent = parted b }) made-there)
+
+pub launched-on-bytes-by : Launched-sound → Launched-on-bytes
+unfolding Launched-on-bytes
+launched-on-bytes-by = launch-sound
