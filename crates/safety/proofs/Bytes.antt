@@ -4,5 +4,6 @@ pub mod Parted
 pub mod Calls
 pub mod Steps
 pub mod Door
+pub mod Every
 pub mod Acts
 pub mod Demand

@@ -10,8 +10,8 @@ use Rattle.rules.specs.Runs.{run-steps}
 use Rattle.safety.specs.Statements.{Demand-3, Sound-means, Launched-sound, Stays-sound, Sealed, Monitor-kept, Vmsa-kept, Pool-kept, Step-counted}
 use Rattle.safety.specs.Statements.{Run-counted}
 use Rattle.safety.specs.Statements.{Counted-from-launch, At-most, At-most-twelve, All-come-back, Unreal-changes-nothing, Unreal-changes-no-byte}
-use Rattle.safety.specs.Statements.{On-machines, On-bytes, Gone-law, Refusal-law, Validation-law, Validated-once, Second-validation-refused}
-use Rattle.safety.specs.Statements.{Validated-pages-zero, Carried-out, Confinement-law, Sizes-kept, Calls-on-bytes, Launched-on-bytes, Runs-on-bytes}
+use Rattle.safety.specs.Statements.{Gone-law, Gone-leaves, Refusal-law, Refusal-leaves, Validation-law, Validated-once-a-call, Validated-once, Second-validation-refused}
+use Rattle.safety.specs.Statements.{Validated-pages-zero, Carried-out, Confinement-law, Calls-confined, Sizes-kept, Calls-on-bytes, Launched-on-bytes, Runs-on-bytes}
 use Rattle.safety.proofs.Branches.{never}
 use Rattle.safety.proofs.Keeping.{Each-keeps, run-keeps}
 use Rattle.safety.proofs.Sound.Facts.{Sound, open-sound, close-sound}
@@ -41,6 +41,7 @@ use Rattle.safety.proofs.Always.WholeCalls as Whole
 use Rattle.safety.proofs.Always.Confined as Confined
 use Rattle.safety.proofs.Bytes.Sizes as Sizes
 use Rattle.safety.proofs.Bytes.Calls as Calls
+use Rattle.safety.proofs.Bytes.Every.{of-every-call}
 use Rattle.safety.proofs.Bytes.Steps.{launched-on-bytes-by, runs-on-bytes-by}
 use Rattle.safety.proofs.Bytes.Demand.{demand-3-by}
 
@@ -125,24 +126,19 @@ pub unreal-changes-no-byte : Unreal-changes-no-byte
 unfolding Unreal-changes-no-byte
 unreal-changes-no-byte = Unreal.unreal-changes-no-byte
 
-pub gone-leaves : On-machines Gone-law
-gone-leaves = Gone.gone-leaves
-
-pub gone-on-bytes : On-bytes Gone-law
-unfolding Gone-law outcome-number
-gone-on-bytes = Calls.on-bytes Gone-law (λ caller g m e. never BadMachine Gone refl e) gone-leaves
+pub gone-leaves : Gone-leaves
+unfolding Gone-leaves Gone-law outcome-number
+gone-leaves = of-every-call Gone-law (λ caller g m e. never BadMachine Gone refl e) Gone.gone-leaves
 
 -- 8
-pub refusal-leaves : On-machines Refusal-law
-refusal-leaves = Refusal.refusal-leaves
-
-pub refusal-on-bytes : On-bytes Refusal-law
-unfolding Refusal-law outcome-number
-refusal-on-bytes = Calls.on-bytes Refusal-law (λ caller g m e. never BadMachine Handled refl e) refusal-leaves
+pub refusal-leaves : Refusal-leaves
+unfolding Refusal-leaves Refusal-law outcome-number
+refusal-leaves = of-every-call Refusal-law (λ caller g m e. never BadMachine Handled refl e) Refusal.refusal-leaves
 
 -- 9
-pub validation-of-calls : On-machines Validation-law
-validation-of-calls = Whole.validation-of-calls
+pub validated-once-a-call : Validated-once-a-call
+unfolding Validated-once-a-call
+validated-once-a-call = of-every-call Validation-law Whole.validation-still Whole.validation-of-calls
 
 pub validated-once : Validated-once
 unfolding Validated-once
@@ -160,8 +156,9 @@ pub carried-out : Carried-out
 carried-out = Second.carried-out
 
 -- 10
-pub confined : On-machines Confinement-law
-confined = Confined.confined
+pub calls-confined : Calls-confined
+unfolding Calls-confined
+calls-confined = of-every-call Confinement-law Confined.confined-still Confined.confined
 
 -- on the lent bytes
 pub sizes-kept : Sizes-kept

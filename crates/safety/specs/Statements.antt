@@ -6,7 +6,7 @@ use mathlib.Core.Logic.{_⊎_}
 use mathlib.Core.Bool.{true, false}
 use mathlib.Core.List.{List, [], _∷_}
 use Prim.Native.Nat.{ℕ, suc, _+_, _-_, _<_, _≤_}
-use lib.ListN.{getD}
+use lib.ListN.{length, getD}
 use Rattle.rules.specs.Words.{records, records-without-pool, between, bit}
 use Rattle.rules.specs.declared.Registers.{Registers}
 use Rattle.rules.specs.declared.Plan.{Plan}
@@ -17,16 +17,16 @@ use Rattle.rules.specs.declared.ListCall.the-variants.{Pvalidate}
 use Rattle.rules.specs.declared.Wish.{Wish}
 use Rattle.rules.specs.declared.Launched.the-variants.{Made}
 use Rattle.rules.specs.Answers.{launched-number}
-use Rattle.rules.specs.Machine.{Lent, Machine, page-at, owner, monitor, vmsa-area, permitted, valid, table-byte, vcpu}
+use Rattle.rules.specs.Machine.{Lent, Machine, N, page-at, owner, monitor, vmsa-area, permitted, valid, table-byte, vcpu}
 use Rattle.rules.specs.Launch.{launch}
 use Rattle.rules.specs.Sound.{table-sized, pages-sized, sound}
 use Rattle.rules.specs.Lists.{list-next, list-entry, read-entry, carry-out-all, store-index, run}
 use Rattle.rules.specs.Call.{Posed}
-use Rattle.rules.specs.Flat.{Buffers, parted, well-sized, sound-bytes, launch-bytes, store-bytes, mark-bytes, call-bytes, door-bytes}
+use Rattle.rules.specs.Flat.{Buffers, parted, well-sized, sound-bytes, launch-bytes, call-bytes, registers-of, door-bytes}
 use Rattle.rules.specs.Runs.{Step, calls, stores, marks, called, step, run-steps, pool, handled-as, taken-in, given-back, over-run}
 use Rattle.safety.specs.Terms.{Back, deletes, gives-back, all-succeed, Same-page, Kept-page, in-pool, in-use, rounds, withdrawals, Recovered}
 use Rattle.safety.specs.Terms.{unreal, Left-by-gone, refused, Left-by-refusal, covers, covers-valid, second-code, Invalidated-before, Confined}
-use Rattle.safety.specs.Terms.{bytes-back, Act, act, acts, act-deletes, act-gives-back, act-taken-in, act-given-back, over-acts, all-acts-succeed}
+use Rattle.safety.specs.Terms.{bytes-back, door-back, Act, store-act, mark-act, act, acts, act-deletes, act-gives-back, act-taken-in, act-given-back, over-acts, all-acts-succeed}
 use Rattle.safety.specs.Terms.{withdrawal-acts}
 use Rattle.safety.specs.Sentences.{Sound-machine}
 
@@ -39,10 +39,12 @@ pub record Kept-by (a : Act) (b : Buffers) : Type 0 where
   pub pool-pages : (p : ℕ) → in-pool (table-byte (parted b) p) ≡ true → act-gives-back p a b ≡ false
       → Same-page p (parted b) (parted (act a b)) × (in-pool (table-byte (parted (act a b)) p) ≡ true)
 
--- what holds of the bytes after these acts: sound; sealed, no VMPL has any permission on a page of owner 2 to 5; kept by any next act; every page of the pool
--- accounted for; at most twelve in use; and the free ones all come back, in as many rounds as they need
-pub record Holds (start : Buffers) (done : List Act) : Type 0 where
-  pub sound : sound-bytes (acts done start) ≡ true
+-- what holds of the bytes after these acts: N as launch was told, the sizes right, and the machine that they are sound; sealed, no VMPL has any permission on a page
+-- of owner 2 to 5; kept by any next act; every page of the pool accounted for; at most twelve in use; and the free ones all come back, in as many rounds as they need
+pub record Holds (n : ℕ) (start : Buffers) (done : List Act) : Type 0 where
+  pub size : length (acts done start .table) ≡ n
+  pub sized : well-sized (acts done start) ≡ true
+  pub sound : Sound-machine (parted (acts done start))
   pub sealed : (p c : ℕ) → between 2 5 (owner (table-byte (parted (acts done start)) p)) ≡ true
       → permitted c (table-byte (parted (acts done start)) p) ≡ false
   pub kept : (next : Act) → Kept-by next (acts done start)
@@ -57,7 +59,7 @@ pub record Holds (start : Buffers) (done : List Act) : Type 0 where
 unfoldable pub Demand-3 : Type 0
 Demand-3 =
     (n : ℕ) (plan : Plan) (lent : Buffers) → launched-number (launch-bytes n plan lent .answer) ≡ 0
-    → (done : List Act) → Holds (launch-bytes n plan lent .after) done
+    → (done : List Act) → Holds n (launch-bytes n plan lent .after) done
 
 -- `sound` by its sentences: they hold exactly when it says true
 unfoldable pub Sound-means : Type 0
@@ -127,13 +129,22 @@ All-come-back =
     Recovered (all-succeed ways m) (over-run given-back ways m) (m .lent) (run-steps ways m .lent)
 
 -- ---- Of every call whatever, wrong sizes and unsound machines included. A law says something of the caller, its registers, the machine on entry, and what
--- the call came back with; it holds of the definition on machines, and of the one on bytes that the code's promise cites
+-- the call came back with; it holds of the definition on machines, of the one on bytes that the code's promise cites, and of the one at the door, where the
+-- registers are bytes too, each below 256
 
 unfoldable pub On-machines : (ℕ → Registers → Lent → Back → Type 0) → Type 0
 On-machines law = (caller : ℕ) (g : Registers) (m : Machine) → law caller g (m .lent) (called caller g m)
 
 unfoldable pub On-bytes : (ℕ → Registers → Lent → Back → Type 0) → Type 0
 On-bytes law = (caller : ℕ) (s : Posed Registers Buffers) → law caller (s .registers) (parted (s .machine)) (bytes-back caller s)
+
+unfoldable pub On-door : (ℕ → Registers → Lent → Back → Type 0) → Type 0
+On-door law =
+    (caller : ℕ) (registers : List ℕ) (b : Buffers) → ((k : ℕ) → getD registers k 0 < 256)
+    → law caller (registers-of registers) (parted b) (door-back caller registers b)
+
+unfoldable pub Of-every-call : (ℕ → Registers → Lent → Back → Type 0) → Type 0
+Of-every-call law = On-machines law × On-bytes law × On-door law
 
 -- 7. No call, bad machine: everything as it was; with the registers as a record, and as bytes, which are below 256
 unfoldable pub Unreal-changes-nothing : Type 0
@@ -149,9 +160,15 @@ Unreal-changes-no-byte =
 unfoldable pub Gone-law : ℕ → Registers → Lent → Back → Type 0
 Gone-law caller g m a = a .answer ≡ Gone → Left-by-gone caller g m (a .after)
 
+unfoldable pub Gone-leaves : Type 0
+Gone-leaves = Of-every-call Gone-law
+
 -- 8. Refused
 unfoldable pub Refusal-law : ℕ → Registers → Lent → Back → Type 0
 Refusal-law caller g m a = a .answer ≡ Handled → refused (a .after .registers) ≡ true → Left-by-refusal caller g m (a .after)
+
+unfoldable pub Refusal-leaves : Type 0
+Refusal-leaves = Of-every-call Refusal-law
 
 -- 9. No second validation, the old monitor's fault: a page was validated twice, and the host slid an old page back. Of whole calls: page p was valid on entry,
 -- and entry k, one that the index has passed, covers it with wish 1. Then the entry has bit 3, or an earlier one of the same call made the page invalid
@@ -161,6 +178,9 @@ Validation-law caller g m a =
     → (k p : ℕ) → list-next (g .rcx) m ≤ k → k < list-next (g .rcx) (a .after .machine .lent)
     → bit 2 (list-entry k (g .rcx) m) ≡ true → covers (list-entry k (g .rcx) m) p ≡ true → valid (table-byte m p) ≡ true
     → (bit 3 (list-entry k (g .rcx) m) ≡ true) ⊎ Invalidated-before k p (g .rcx) m
+
+unfoldable pub Validated-once-a-call : Type 0
+Validated-once-a-call = Of-every-call Validation-law
 
 -- and of one entry with wish 1 and bit 3 clear: (a) if it is carried out, every covered page was invalid
 unfoldable pub Validated-once : Type 0
@@ -190,6 +210,9 @@ Carried-out =
 unfoldable pub Confinement-law : ℕ → Registers → Lent → Back → Type 0
 Confinement-law caller g m a = Confined (vcpu m caller .vmpl) m (a .after .machine .lent)
 
+unfoldable pub Calls-confined : Type 0
+Calls-confined = Of-every-call Confinement-law
+
 -- ---- On the lent bytes. The promises of the code speak of flat bytes, the statements above of machines
 
 -- a call keeps the sizes of any machine of right size, sound or not
@@ -197,7 +220,7 @@ unfoldable pub Sizes-kept : Type 0
 Sizes-kept =
     (caller : ℕ) (g : Registers) (m : Machine) → table-sized (m .lent) ≡ true → pages-sized (m .lent) ≡ true →
     let after = called caller g m .after .machine .lent in
-    (table-sized after ≡ true) × (pages-sized after ≡ true)
+    (table-sized after ≡ true) × (pages-sized after ≡ true) × (N after ≡ N (m .lent))
 
 -- so that on bytes of right size, sound or not, the call on bytes is the call on the machine that they are
 unfoldable pub Calls-on-bytes : Type 0
@@ -205,13 +228,12 @@ Calls-on-bytes =
     (caller : ℕ) (s : Posed Registers Buffers) → well-sized (s .machine) ≡ true
     → bytes-back caller s ≡ called caller (s .registers) (record { lent = parted (s .machine) })
 
--- a launch that is made on bytes gives a sound machine; and from any sound machine a run of steps on bytes is the run on machines, also for a caller that
--- lends the registers as one record
+-- a launch that is made on bytes gives a sound machine; and from any sound machine a run of steps on bytes is the run on machines, here for a caller that lends the
+-- registers as one record
 unfoldable pub step-bytes : Step → Buffers → Buffers
 step-bytes (calls caller g) b = call-bytes caller (record { registers = g; machine = b }) .after .machine
-step-bytes (stores c p offset bytes) b =
-    record { memory = store-bytes c p offset bytes (b .table) (b .memory) .after; table = b .table; sheet = b .sheet }
-step-bytes (marks i value) b = record { memory = b .memory; table = b .table; sheet = mark-bytes i value (b .sheet) .after }
+step-bytes (stores c p offset bytes) b = act (store-act c p offset bytes) b
+step-bytes (marks i value) b = act (mark-act i value) b
 
 unfoldable pub run-bytes : List Step → Buffers → Buffers
 run-bytes [] b = b

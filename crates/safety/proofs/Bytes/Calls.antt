@@ -5,7 +5,7 @@ use Prim.Native.Nat.{ℕ}
 use Rattle.rules.specs.declared.Registers.{Registers}
 use Rattle.rules.specs.declared.Outcome.the-variants.{BadMachine}
 use Rattle.rules.specs.Answers.{refuse}
-use Rattle.rules.specs.Machine.{Lent}
+use Rattle.rules.specs.Machine.{Lent, N}
 use Rattle.rules.specs.Call.{Posed}
 use Rattle.rules.specs.Flat.{Buffers, parted, joined, well-sized, call-bytes}
 use Rattle.rules.specs.Runs.{called}
@@ -18,12 +18,12 @@ use Rattle.safety.proofs.Bytes.Sizes.{sizes-kept}
 
 -- the sizes that a call keeps
 called-sized : (caller : ℕ) (s : Posed Registers Buffers) → well-sized (s .machine) ≡ true
-    → Sized (called caller (s .registers) (record { lent = parted (s .machine) }) .after .machine .lent)
+    → Sized (N (parted (s .machine))) (called caller (s .registers) (record { lent = parted (s .machine) }) .after .machine .lent)
 unfolding Sizes-kept
 called-sized caller s w =
     let now = parted-sized (s .machine) w in
     let after = sizes-kept caller (s .registers) (record { lent = parted (s .machine) }) (now .tables) (now .memories) in
-    record { tables = after .0; memories = after .1 }
+    record { tables = after .0; memories = after .1; number = after .2 }
 
 -- a call on bytes of right size comes back with the machine's, joined and parted
 sized-back : (caller : ℕ) (s : Posed Registers Buffers) → well-sized (s .machine) ≡ true →

@@ -1,5 +1,5 @@
 -- Demand 3 whole, of the bytes that a host holds, from its parts on machines: each act is a step of the machine that the bytes are.
-use mathlib.Core.Path.{_≡_, refl, sym, _∙_, ap₂}
+use mathlib.Core.Path.{_≡_, refl, sym, _∙_, ap, ap₂}
 use mathlib.Core.Bool.{true}
 use mathlib.Core.List.{List, [], _∷_, map}
 use Prim.Native.Nat.{ℕ, zero, suc, _+_, _*_, _^_, _<_}
@@ -8,7 +8,7 @@ use Rattle.rules.specs.Words.{page-size, most-pages, records}
 use Rattle.rules.specs.declared.Registers.{Registers}
 use Rattle.rules.specs.declared.Launched.the-variants.{Made}
 use Rattle.rules.specs.Answers.{launched-number}
-use Rattle.rules.specs.Machine.{Lent, startup}
+use Rattle.rules.specs.Machine.{Lent, N, startup}
 use Rattle.rules.specs.Flat.{Buffers, parted, sound-bytes, register-bytes, launch-bytes}
 use Rattle.rules.specs.Runs.{Step, calls, stores, pool}
 use Rattle.safety.specs.Terms.{rounds, asking, withdrawals, Recovered, Act, call-act, acts, act-given-back, over-acts, all-acts-succeed, withdrawal-acts}
@@ -16,11 +16,14 @@ use Rattle.safety.specs.Statements.{Kept-by, Holds, Demand-3, Launched-s
 use Rattle.safety.specs.Determined.{Told-apart, Answers-told-apart}
 use Rattle.safety.proofs.Numbers.{answers-told-apart}
 use Rattle.safety.proofs.Sound.Facts.{Sound, open-sound}
-use Rattle.safety.proofs.Sound.Sizes.{few-pages}
+use Rattle.safety.proofs.Sound.Sizes.{few-pages, Sized, sizes-of}
+use Rattle.safety.proofs.Sound.Said.{said}
+use Rattle.safety.proofs.Keeping.{run-keeps}
 use Rattle.safety.proofs.Sound.Rows.{startup-lives, calling-below}
 use Rattle.safety.proofs.Kept.Sealed.{sealed-now}
 use Rattle.safety.proofs.Pool.InUse.{at-most-twelve}
-use Rattle.safety.proofs.Bytes.Steps.{launch-sound, launch-empty}
+use Rattle.safety.proofs.Bytes.Sizes.{each-sized-call}
+use Rattle.safety.proofs.Bytes.Steps.{launch-sound, launch-empty, launch-size}
 use Rattle.safety.proofs.Bytes.Door.{cut, length-registers, asking-back, asks-as}
 use Rattle.safety.proofs.Bytes.Acts.{meant, machine, deletes-meant, gives-back-meant, sound-both, act-agrees, follows}
 
@@ -83,19 +86,23 @@ module _ (parts : Parts) where
       let go = follows (parts .stays-sound) ways b e in
       rw (go .succeeded, go .given, go .reached, same) (parts .come-back (machine b) (λ k. cut (others k)) fine)
 
-  module _ (start : Buffers) (e : sound-bytes start ≡ true) (empty : pool (parted start) ≡ 0) (done : List Act) where
+  module _ (n : ℕ) (start : Buffers) (e : sound-bytes start ≡ true) (count : N (parted start) ≡ n) (empty : pool (parted start) ≡ 0) (done : List Act) where
     -- all of it, from sound bytes with an empty pool
-    holds : Holds start done
-    unfolding Run-counted
+    holds : Holds n start done
+    unfolding Run-counted N parted
     holds =
         let go = follows (parts .stays-sound) done start e in
-        let now = sound-both (acts done start) (go .stays-sound) .1 in
+        let now = sound-both (acts done start) (go .stays-sound) in
+        let open-now = open-sound (parted (acts done start)) (now .1) in
+        let sizes = sizes-of (open-sound (parted start) (sound-both start e .1)) in
         record {
-          sound = go .stays-sound;
-          sealed = sealed-now (parted (acts done start)) now;
+          size = ap N (go .reached) ∙ run-keeps (Sized (N (parted start))) (each-sized-call _) (map meant done) (machine start) sizes .number ∙ count;
+          sized = now .0;
+          sound = said (parted (acts done start)) open-now;
+          sealed = sealed-now (parted (acts done start)) (now .1);
           kept = λ next. kept-by next (acts done start) (go .stays-sound);
           counted = rw (go .reached) (omega (arith, go .given, go .taken, empty, parts .run-counted (map meant done) (machine start) (sound-both start e .1)));
-          at-most-twelve = at-most-twelve (parted (acts done start)) now;
+          at-most-twelve = at-most-twelve (parted (acts done start)) (now .1);
           come-back = λ others. come-back others (acts done start) (go .stays-sound);
         }
 
@@ -104,4 +111,5 @@ module _ (parts : Parts) where
   unfolding Demand-3 Answers-told-apart Told-apart launched-number
   demand-3-by n plan lent answered done =
       let made = answers-told-apart .2 (launch-bytes n plan lent .answer) Made answered in
-      holds (launch-bytes n plan lent .after) (launch-sound (parts .launched) n plan lent made) (launch-empty (parts .launched) n plan lent made) done
+      holds n (launch-bytes n plan lent .after) (launch-sound (parts .launched) n plan lent made) (launch-size (parts .launched) n plan lent made)
+      (launch-empty (parts .launched) n plan lent made) done

@@ -56,7 +56,7 @@ asking-back m g h =
 
 -- ---- the code of a handled call
 
-code-fits : (c : Code) → code-number c < 256 ^ 8
+pub code-fits : (c : Code) → code-number c < 256 ^ 8
 unfolding code-number
 code-fits Success = omega arith
 code-fits OneMorePage = omega arith

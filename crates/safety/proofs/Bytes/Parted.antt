@@ -1,5 +1,5 @@
 -- Machines of right size and well-sized bytes are one another's: parted and joined, there and back.
-use mathlib.Core.Path.{_≡_, _∙_, ap}
+use mathlib.Core.Path.{_≡_, refl, _∙_, ap}
 use mathlib.Core.Bool.{true, and-eq-true-iff}
 use mathlib.Core.List.{List, [], _∷_}
 use Prim.Native.Nat.{ℕ, _*_, _/_, _<_}
@@ -36,7 +36,7 @@ module _ (size : ℕ) (pos : 0 < size) where
 
 -- ---- a machine of right size and its bytes
 
-module _ (m : Lent) (s : Sized m) where
+module _ {n : ℕ} (m : Lent) (s : Sized n m) where
   -- joined and parted it is the same
   pub parted-joined : parted (joined m) ≡ m
   unfolding parted joined page-size record-size
@@ -79,7 +79,7 @@ unfolding record-size records
 rows-count n e = omega arith
 
 -- it is of right size
-pub parted-sized : (b : Buffers) → well-sized b ≡ true → Sized (parted b)
+pub parted-sized : (b : Buffers) → well-sized b ≡ true → Sized (N (parted b)) (parted b)
 unfolding table-sized pages-sized parted N record-size page-size memory-sized between
 parted-sized b w =
     let both = both-sized b w in
@@ -90,4 +90,5 @@ parted-sized b w =
     record {
       tables = rw (range, eq-eqb _ _ rows, each-part record-size (lit< tt) (b .sheet));
       memories = rw (eq-eqb _ _ (length-pages (b .table) (b .memory) (both .0)), each-part page-size (lit< tt) (b .memory));
+      number = refl;
     }

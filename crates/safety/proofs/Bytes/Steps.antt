@@ -5,22 +5,25 @@ use mathlib.Core.List.{List, [], _∷_}
 use Prim.Native.Nat.{ℕ}
 use native.Mathlib.Omega.{arith}
 use lib.Dec.{eqb}
-use lib.ListN.{length}
+use lib.ListN.{length, length-map}
+use borrow.Author.Tests.{eqb-true}
 use Rattle.rules.specs.declared.Registers.{Registers}
 use Rattle.rules.specs.declared.Launched.{Launched}
 use Rattle.rules.specs.declared.Launched.the-variants.{Made, WrongSize}
 use Rattle.rules.specs.declared.Plan.{Plan}
 use Rattle.rules.specs.Answers.{Answered, refuse, launched-number}
 use Rattle.rules.specs.Machine.{Lent, Machine, with-lent, N, below, with-memory, write, table-byte, record-at, amend}
-use Rattle.rules.specs.Launch.{launch}
+use Rattle.rules.specs.Words.{range}
+use Rattle.rules.specs.Launch.{launch-byte, launch-table, made, launch}
 use Rattle.rules.specs.Steps.{may-store, store, may-mark, mark}
 use Rattle.rules.specs.Sound.{sound}
 use Rattle.rules.specs.Flat.{Buffers, join, parted, joined, well-sized, sound-bytes, launch-bytes, store-bytes, mark-bytes, call-bytes}
 use Rattle.rules.specs.Runs.{Step, calls, stores, marks, called, step, run-steps, pool}
-use Rattle.laws.proofs.Ranges.{by-test}
+use Rattle.laws.proofs.Ranges.{by-test, length-range}
 use Rattle.laws.proofs.FlatSteps.{join-memory, join-sheet}
+use Rattle.safety.specs.Terms.{act}
 use Rattle.safety.specs.Statements.{step-bytes, run-bytes, Launched-sound, Stays-sound, Launched-on-bytes, Runs-on-bytes}
-use Rattle.safety.proofs.Checks.{not-made}
+use Rattle.safety.proofs.Checks.{not-made, launch-made}
 use Rattle.safety.proofs.Sound.Facts.{open-sound}
 use Rattle.safety.proofs.Sound.Sizes.{sizes-of}
 use Rattle.safety.proofs.Pool.Runs.{launched-empty}
@@ -60,7 +63,7 @@ module _ (b : Buffers) (w : well-sized b ≡ true) where
 
   -- each step on bytes is the step on the machine, joined
   bytes-step : (s : Step) → step-bytes s b ≡ joined (step s (record { lent = parted b }) .lent)
-  unfolding step-bytes step joined with-lent parted
+  unfolding step-bytes act step joined with-lent parted
   bytes-step (calls caller g) = call-step caller g
   bytes-step (stores c p offset bytes) =
       λ i. record {
@@ -98,22 +101,31 @@ module _ (kept : Stays-sound) where
 
 -- ---- launch
 
--- one that is made on bytes was lent well-sized ones, and is the launch on the machine that they are
+-- one that is made on bytes was lent n pages, all of right size, and is the launch on the machine that they are
 launch-told : (n : ℕ) (plan : Plan) (b : Buffers) → launch-bytes n plan b .answer ≡ Made →
     let l = launch plan (record { lent = parted b }) in
-    (well-sized b ≡ true) × (launch-bytes n plan b ≡ record { answer = l .answer; after = joined (l .after .lent) })
+    (well-sized b ≡ true) × (n ≡ length (b .table)) × (launch-bytes n plan b ≡ record { answer = l .answer; after = joined (l .after .lent) })
 unfolding launch-bytes refuse launched-number
 launch-told n plan b e =
     by-test (well-sized b && eqb n (length (b .table)))
-    (λ t. (and-eq-true-iff (well-sized b) (eqb n (length (b .table))) .0 t .0, rw t))
+    (λ t.
+    let both = and-eq-true-iff (well-sized b) (eqb n (length (b .table))) .0 t in
+    (both .0, eqb-true n (length (b .table)) (both .1), rw t))
     (λ t. not-made WrongSize (omega arith) (rw t at e))
+
+-- launch keeps how many pages there are
+launched-size : (plan : Plan) (m : Machine) → launch plan m .answer ≡ Made → length (launch plan m .after .lent .table) ≡ length (m .lent .table)
+unfolding made launch-table write with-memory N
+launched-size plan m e =
+    let pages = length (m .lent .table) in
+    rw (launch-made plan m e .after) (length-map (range 0 pages) (launch-byte plan) ∙ length-range 0 pages)
 
 module _ (made : Launched-sound) (n : ℕ) (plan : Plan) (b : Buffers) (e : launch-bytes n plan b .answer ≡ Made) where
   abbrev launched : Answered Launched Machine
   launched = launch plan (record { lent = parted b })
 
   made-there : launched .answer ≡ Made
-  made-there = sym (ap (λ a. a .answer) (launch-told n plan b e .1)) ∙ e
+  made-there = sym (ap (λ a. a .answer) (launch-told n plan b e .2)) ∙ e
 
   sound-there : sound (launched .after .lent) ≡ true
   unfolding Launched-sound
@@ -123,12 +135,19 @@ module _ (made : Launched-sound) (n : ℕ) (plan : Plan) (b : Buffers) (e : laun
 
   -- it gives a sound machine
   pub launch-sound : sound-bytes (launch-bytes n plan b .after) ≡ true
-  launch-sound = rw (launch-told n plan b e .1) (sound-joined _ sound-there)
+  launch-sound = rw (launch-told n plan b e .2) (sound-joined _ sound-there)
 
   -- whose pool is empty
   pub launch-empty : pool (parted (launch-bytes n plan b .after)) ≡ 0
   launch-empty =
-      rw (launch-told n plan b e .1, parted-joined _ (sizes-of (open-sound _ sound-there))) (launched-empty plan (record { lent = parted b }) made-there)
+      rw (launch-told n plan b e .2, parted-joined _ (sizes-of (open-sound _ sound-there))) (launched-empty plan (record { lent = parted b }) made-there)
+
+  -- with n pages
+  pub launch-size : N (parted (launch-bytes n plan b .after)) ≡ n
+  unfolding parted joined N
+  launch-size =
+      ap (λ a. length (a .after .table)) (launch-told n plan b e .2) ∙ launched-size plan (record { lent = parted b }) made-there
+      ∙ sym (launch-told n plan b e .1)
 
 pub launched-on-bytes-by : Launched-sound → Launched-on-bytes
 unfolding Launched-on-bytes

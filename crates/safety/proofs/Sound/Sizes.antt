@@ -106,47 +106,49 @@ module _ (m : Lent) (e : pages-sized m ≡ true) where
 
 -- ---- both
 
--- a machine of right size
-pub record Sized (m : Lent) : Type 0 where
+-- a machine of right size, with n pages
+pub record Sized (n : ℕ) (m : Lent) : Type 0 where
   pub tables : table-sized m ≡ true
   pub memories : pages-sized m ≡ true
+  pub number : N m ≡ n
 
 -- as a sound one is
-pub sizes-of : {m : Lent} → Sound m → Sized m
-sizes-of s = record { tables = s .tables; memories = s .memories }
+pub sizes-of : {m : Lent} → Sound m → Sized (N m) m
+sizes-of s = record { tables = s .tables; memories = s .memories; number = refl }
 
 -- it stays so after a write
-pub write-sized : (p offset : ℕ) (bytes : List ℕ) (m : Lent) → Sized m → Sized (write p offset bytes m)
+pub write-sized : {n : ℕ} (p offset : ℕ) (bytes : List ℕ) (m : Lent) → Sized n m → Sized n (write p offset bytes m)
 unfolding table-sized write with-memory N
-write-sized p offset bytes m s = record { tables = s .tables; memories = written-sized m (s .memories) p offset bytes }
+write-sized p offset bytes m s = record { tables = s .tables; memories = written-sized m (s .memories) p offset bytes; number = s .number }
 
 -- a page filled with zeros
-pub fill-sized : (p : ℕ) (m : Lent) → Sized m → Sized (fill p m)
+pub fill-sized : {n : ℕ} (p : ℕ) (m : Lent) → Sized n m → Sized n (fill p m)
 unfolding table-sized fill with-memory N
-fill-sized p m s = record { tables = s .tables; memories = filled-sized m (s .memories) p }
+fill-sized p m s = record { tables = s .tables; memories = filled-sized m (s .memories) p; number = s .number }
 
 -- a table byte put
-pub put-sized : (p b : ℕ) (m : Lent) → Sized m → Sized (put p b m)
+pub put-sized : {n : ℕ} (p b : ℕ) (m : Lent) → Sized n m → Sized n (put p b m)
 unfolding table-sized put
-put-sized p b m s = record { tables = rw (put-N m p b) (s .tables); memories = pages-kept m (s .memories) (put p b m) refl (put-N m p b) }
+put-sized p b m s = record { tables = rw (put-N m p b) (s .tables); memories = pages-kept m (s .memories) (put p b m) refl (put-N m p b); number = put-N m p b ∙ s .number }
 
-pub change-sized : (f : ℕ → ℕ) (p : ℕ) (m : Lent) → Sized m → Sized (change f p m)
+pub change-sized : {n : ℕ} (f : ℕ → ℕ) (p : ℕ) (m : Lent) → Sized n m → Sized n (change f p m)
 unfolding change
 change-sized f p m s = put-sized p _ m s
 
 -- a record amended, if that keeps its size
-pub amend-sized : (f : List ℕ → List ℕ) (i : ℕ) (m : Lent) → ((r : List ℕ) → length r ≡ record-size → length (f r) ≡ record-size) → Sized m
-    → Sized (amend f i m)
+pub amend-sized : {n : ℕ} (f : List ℕ → List ℕ) (i : ℕ) (m : Lent) → ((r : List ℕ) → length r ≡ record-size → length (f r) ≡ record-size) → Sized n m
+    → Sized n (amend f i m)
 unfolding amend N pages-sized
 amend-sized f i m keeps s =
     record {
       tables = tables-kept m (s .tables) (amend f i m) i (f (record-at m i)) refl refl (λ h. keeps _ (record-length m (s .tables) i h));
       memories = s .memories;
+      number = s .number;
     }
 
 -- and an effect for each number of a list, if each keeps it
-pub each-sized : (effect : ℕ → Lent → Lent) → ((p : ℕ) (m : Lent) → Sized m → Sized (effect p m)) → (ps : List ℕ) (m : Lent) → Sized m
-    → Sized (each effect ps m)
+pub each-sized : {n : ℕ} (effect : ℕ → Lent → Lent) → ((p : ℕ) (m : Lent) → Sized n m → Sized n (effect p m)) → (ps : List ℕ) (m : Lent) → Sized n m
+    → Sized n (each effect ps m)
 unfolding each
 each-sized effect keeps [] m s = s
 each-sized effect keeps (p ∷ ps) m s = each-sized effect keeps ps (effect p m) (keeps p m s)
