@@ -3,7 +3,7 @@ ghost use mathlib.Core.Path.{_≡_};
 ghost use Rattle.rules.specs.Answers.{Answered};
 ghost use Rattle.rules.specs.Call;
 ghost use Rattle.rules.specs.Flat.{Buffers, parted};
-ghost use Rattle.laws.proofs.Tested.{Tested};
+ghost use Rattle.laws.specs.Tested.{Tested};
 use query_calls::Told;
 use rules::Code;
 use rules::ListCall;

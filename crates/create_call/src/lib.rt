@@ -10,7 +10,7 @@ ghost use Rattle.rules.specs.Answers.{Answered};
 ghost use Rattle.rules.specs.Machine.{Lent, own, pool-in-use, fields, is-live, needs-page};
 ghost use Rattle.rules.specs.Calls.{Asked, unfit-pages, unfit-vcpu, is-free, created, create};
 ghost use Rattle.rules.specs.Flat.{Buffers, parts, parted};
-ghost use Rattle.laws.proofs.Tested.{Tested};
+ghost use Rattle.laws.specs.Tested.{Tested};
 ghost use Rattle.sheet.specs.Row.{Row, row, vcpu-in};
 ghost use Rattle.create_call.specs.Fit.{unfit-page, Asking, Named, Fit};
 use rules::Code;

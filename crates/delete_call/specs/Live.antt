@@ -7,7 +7,7 @@ use lib.ListN.{length}
 use Rattle.rules.specs.Words.{page-size}
 use Rattle.rules.specs.Machine.{fields, holds}
 use Rattle.rules.specs.Flat.{Buffers, parts}
-use Rattle.laws.proofs.Tested.{Names}
+use Rattle.laws.specs.Tested.{Names}
 use Rattle.sheet.specs.Row.{Row, row}
 
 -- it is one of the sheet's, and the pool page that it holds, if it holds one, is in the table

@@ -9,7 +9,7 @@ ghost use Rattle.rules.specs.Words.{page-size, records, record-size, little, wi
 ghost use Rattle.rules.specs.Machine.{written, zeros, own, fields, is-live, holds, efer};
 ghost use Rattle.rules.specs.Calls;
 ghost use Rattle.rules.specs.Flat.{parts, parted};
-ghost use Rattle.laws.proofs.Tested.{Tested};
+ghost use Rattle.laws.specs.Tested.{Tested};
 ghost use Rattle.sheet.specs.Row.{Row, row};
 ghost use Rattle.delete_call.specs.Live.{Pooled, Live};
 use rules::Code;

@@ -11,6 +11,7 @@ use lib.ListN.{length, getD, take, set, length-set, List·getD-eq-default}
 use lib.Seq.{getD-set-same, getD-set-other}
 use Rattle.rules.specs.Words.{range, every, exists, count, places, each}
 use Rattle.rules.specs.Machine.{Lent, table-byte, put, change}
+use Rattle.laws.specs.Revised.{revise}
 use Rattle.laws.proofs.Ranges.{by-test, length-range, range-snoc, exists-range, each-part, each-same, Rising, none, more, rising-take, rising-range}
 use Rattle.laws.proofs.Ranges.{rising-places, rising→every, rising→absent, rising→outside}
 
@@ -93,49 +94,45 @@ count-agree test test′ (more p a b r) e = rw (e p a, count-agree test test′ 
 -- ---- a list's elements at the places of a rising list, each changed by f
 
 module _ {A : Type 0} (f : A → A) (d : A) where
-  -- element p changed by f
-  unfoldable pub revise : ℕ → List A → List A
-  revise p xs = set xs p (f (getD xs p d))
-
   -- as many elements as before
-  pub length-revised : (ps : List ℕ) (xs : List A) → length (each revise ps xs) ≡ length xs
+  pub length-revised : (ps : List ℕ) (xs : List A) → length (each (revise f d) ps xs) ≡ length xs
   unfolding revise
-  length-revised = each-same length revise (λ p xs. length-set xs p (f (getD xs p d)))
+  length-revised = each-same length (revise f d) (λ p xs. length-set xs p (f (getD xs p d)))
 
   -- an element whose place is not of the list is as it was
-  pub getD-not-revised : (ps : List ℕ) (xs : List A) (i : ℕ) → exists (eqb i) ps ≡ false → getD (each revise ps xs) i d ≡ getD xs i d
+  pub getD-not-revised : (ps : List ℕ) (xs : List A) (i : ℕ) → exists (eqb i) ps ≡ false → getD (each (revise f d) ps xs) i d ≡ getD xs i d
   unfolding each exists revise
   getD-not-revised [] xs i e = refl
   getD-not-revised (p ∷ ps) xs i e =
       by-test (eqb i p) (λ t. cc)
-      (λ t. getD-not-revised ps (revise p xs) i (rw t at e) ∙ getD-set-other xs p i (f (getD xs p d)) d (eqb-false i p t))
+      (λ t. getD-not-revised ps (revise f d p xs) i (rw t at e) ∙ getD-set-other xs p i (f (getD xs p d)) d (eqb-false i p t))
 
   -- an element whose place is of the list is changed once
   pub getD-revised : {low high : ℕ} {ps : List ℕ} → Rising low high ps → (xs : List A) (i : ℕ) → exists (eqb i) ps ≡ true → i < length xs
-      → getD (each revise ps xs) i d ≡ f (getD xs i d)
+      → getD (each (revise f d) ps xs) i d ≡ f (getD xs i d)
   unfolding each exists revise
   getD-revised none xs i e h = cc
   getD-revised (more {ps = ps} p a b r) xs i e h =
       by-test (eqb i p)
-      (λ t. getD-not-revised ps (revise p xs) i (rising→outside i r (omega (arith, eqb-true i p t)))
+      (λ t. getD-not-revised ps (revise f d p xs) i (rising→outside i r (omega (arith, eqb-true i p t)))
       ∙ rw (← eqb-true i p t) (getD-set-same xs i (f (getD xs i d)) d h))
-      (λ t. getD-revised r (revise p xs) i (rw t at e) (rw length-set h) ∙ ap f (getD-set-other xs p i (f (getD xs p d)) d (eqb-false i p t)))
+      (λ t. getD-revised r (revise f d p xs) i (rw t at e) (rw length-set h) ∙ ap f (getD-set-other xs p i (f (getD xs p d)) d (eqb-false i p t)))
 
   -- the count after it: less those of the list that passed before, plus those that pass after
   pub count-revised : (test : A → Bool) {low high : ℕ} {ps : List ℕ} → Rising low high ps → (xs : List A) → high ≤ length xs
-      → count test (each revise ps xs) + count (λ p. test (getD xs p d)) ps ≡ count test xs + count (λ p. test (f (getD xs p d))) ps
+      → count test (each (revise f d) ps xs) + count (λ p. test (getD xs p d)) ps ≡ count test xs + count (λ p. test (f (getD xs p d))) ps
   unfolding each count revise
   count-revised test none xs h = refl
   count-revised test (more {ps = ps} p a b r) xs h =
-      let other : (q : ℕ) → p < q → getD (revise p xs) q d ≡ getD xs q d = λ q k. getD-set-other xs p q (f (getD xs p d)) d (omega arith) in
+      let other : (q : ℕ) → p < q → getD (revise f d p xs) q d ≡ getD xs q d = λ q k. getD-set-other xs p q (f (getD xs p d)) d (omega arith) in
       omega (
         arith,
-        count-revised test r (revise p xs) (rw length-set h),
+        count-revised test r (revise f d p xs) (rw length-set h),
         count-set test xs p (f (getD xs p d)) d (omega arith),
         count-cons (λ q. test (getD xs q d)) p ps,
         count-cons (λ q. test (f (getD xs q d))) p ps,
-        count-agree (λ q. test (getD (revise p xs) q d)) (λ q. test (getD xs q d)) r (λ q k. ap test (other q k)),
-        count-agree (λ q. test (f (getD (revise p xs) q d))) (λ q. test (f (getD xs q d))) r (λ q k. ap (λ x. test (f x)) (other q k)),
+        count-agree (λ q. test (getD (revise f d p xs) q d)) (λ q. test (getD xs q d)) r (λ q k. ap test (other q k)),
+        count-agree (λ q. test (f (getD (revise f d p xs) q d))) (λ q. test (f (getD xs q d))) r (λ q k. ap (λ x. test (f x)) (other q k)),
       )
 
 -- ---- an effect on each page of a list that changes the page's table byte by f, as `change f` does, whatever else it does

@@ -1,4 +1,4 @@
--- What the tests of outcome 3 have shown of a machine, once they are passed.
+-- Laws about what the tests of outcome 3 have shown of a machine, once they are passed.
 use mathlib.Core.Path.{_≡_, refl, sym, _∙_}
 use mathlib.Core.Bool.{Bool, true, false, not, _&&_, _||_, and-eq-true-iff}
 use mathlib.Core.List.{List, []}
@@ -13,22 +13,10 @@ use Rattle.rules.specs.Machine.{fields, is-live, holds, N}
 use Rattle.rules.specs.Sound.{bad-names, bad-record}
 use Rattle.rules.specs.Call.{bad-sheet, bad-machine}
 use Rattle.rules.specs.Flat.{Buffers, parts, parted, memory-fits, memory-sized, sheet-sized, well-sized}
+use Rattle.laws.specs.Tested.{Tested, Names}
 use Rattle.laws.proofs.Parts.{length-parts}
 use Rattle.laws.proofs.Ranges.{or-false, absent→}
 use Rattle.laws.proofs.FlatSteps.{sized-sheet, length-pages}
-
--- what a call is told: the sizes are right, and the sheet holds nothing that outcome 3 names
-pub record Tested (b : Buffers) (caller : ℕ) : Type 0 where
-  pub sized : well-sized b ≡ true
-  pub shape : bad-machine caller (parted b) ≡ false
-
--- what a live record names
-pub record Names (n : ℕ) (r : List ℕ) : Type 0 where
-  pub least : 1 ≤ fields r .vmpl
-  pub most : fields r .vmpl ≤ 3
-  pub vmsa : fields r .vmsa < n
-  pub calling : fields r .calling < n
-  pub pool : holds r ≡ true → fields r .pool < n
 
 named : (n : ℕ) (r : List ℕ) → bad-names n r ≡ false → Names n r
 unfolding bad-names between

@@ -23,7 +23,7 @@ use Rattle.rules.specs.Call.{bad-machine, bad-sheet}
 use Rattle.rules.specs.Flat.{Buffers, parts, parted}
 use Rattle.laws.proofs.Ranges.{by-test, every-same, every-range→}
 use Rattle.laws.proofs.FlatLaunch.{same-sizes}
-use Rattle.laws.proofs.Tested.{Tested}
+use Rattle.laws.specs.Tested.{Tested}
 use Rattle.entries.specs.Reading.{read-at}
 use Rattle.entries.proofs.Reading.{machine, own-page, some-pages}
 

@@ -2,7 +2,7 @@
 use Prim.Native.Nat.{ℕ, _+_, _*_, _/_, _%_, _<_, _≤_}
 use lib.ListN.{length}
 use Rattle.rules.specs.Flat.{Buffers}
-use Rattle.laws.proofs.Tested.{Tested}
+use Rattle.laws.specs.Tested.{Tested}
 
 pub record Listed (b : Buffers) (caller rcx upto : ℕ) : Type 0 where
   pub tested : Tested b caller

@@ -5,7 +5,7 @@ ghost use Rattle.rules.specs.Words.{entries-a-call};
 ghost use Rattle.rules.specs.Answers.{Answered, entry-code};
 ghost use Rattle.rules.specs.Lists;
 ghost use Rattle.rules.specs.Flat.{Buffers, parted};
-ghost use Rattle.laws.proofs.Tested.{Tested};
+ghost use Rattle.laws.specs.Tested.{Tested};
 ghost use Rattle.list_calls.specs.Listed.{Listed};
 use rules::Code;
 use rules::Entry;

@@ -11,7 +11,8 @@ use Rattle.rules.specs.Words.{page-size, record-size}
 use Rattle.rules.specs.Machine.{Lent, N, below, page-of, offset-of, table-byte, valid, owned-by, usable, vcpu, record-at, fields}
 use Rattle.rules.specs.Lists.{bad-list-page}
 use Rattle.rules.specs.Flat.{Buffers, parts, parted}
-use Rattle.laws.proofs.Tested.{Tested, pages-tested}
+use Rattle.laws.specs.Tested.{Tested}
+use Rattle.laws.proofs.Tested.{pages-tested}
 use Rattle.laws.proofs.Ranges.{or-false}
 
 module _ (vmpl rcx : ℕ) (m : Lent) where

@@ -8,8 +8,8 @@ ghost use Rattle.rules.specs.Answers.{Answered};
 ghost use Rattle.rules.specs.Calls.{remap, remapped};
 ghost use Rattle.rules.specs.Machine.{plain, calling-area, owner, own};
 ghost use Rattle.rules.specs.Flat.{Buffers, parted};
-ghost use Rattle.laws.proofs.Counts.{revise};
-ghost use Rattle.laws.proofs.Tested.{Tested};
+ghost use Rattle.laws.specs.Revised.{revise};
+ghost use Rattle.laws.specs.Tested.{Tested};
 ghost use Rattle.remap_call.specs.Move.{Move};
 use rules::Code;
 

@@ -13,7 +13,8 @@ use Rattle.rules.specs.Flat.{parts, parted}
 use Rattle.laws.proofs.Numbers.{length-little}
 use Rattle.laws.proofs.Parts.{length-parts}
 use Rattle.laws.proofs.Ranges.{each-append, length-places, places-append, rising-places, rising→outside}
-use Rattle.laws.proofs.Counts.{revise, getD-not-revised, count-le-length, table-each, memory-each, sheet-each}
+use Rattle.laws.specs.Revised.{revise}
+use Rattle.laws.proofs.Counts.{getD-not-revised, count-le-length, table-each, memory-each, sheet-each}
 use Rattle.laws.proofs.Writes.{written-append}
 use Rattle.laws.proofs.Withdrawals.{gpas-append, length-gpas, places-more, written-none, written-apart}
 use Rattle.withdraw_call.specs.Given.{freed, Given}

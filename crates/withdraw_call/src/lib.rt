@@ -7,7 +7,7 @@ ghost use Rattle.rules.specs.Words.{places};
 ghost use Rattle.rules.specs.Answers.{Answered};
 ghost use Rattle.rules.specs.Calls.{is-free};
 ghost use Rattle.rules.specs.Flat.{Buffers, parted};
-ghost use Rattle.laws.proofs.Tested.{Tested};
+ghost use Rattle.laws.specs.Tested.{Tested};
 ghost use Rattle.withdraw_call.specs.Given.{Room, Given};
 use rules::Code;
 

@@ -16,7 +16,8 @@ use Rattle.rules.specs.Machine.{page-of, vcpu, record-at, fields, is-live}
 use Rattle.rules.specs.Calls.{named-by, delete}
 use Rattle.rules.specs.Flat.{Buffers, parts, parted}
 use Rattle.laws.proofs.Ranges.{lowest-passes}
-use Rattle.laws.proofs.Tested.{Tested, pages-tested, rows-tested, sheet-tested, caller-below, live-names}
+use Rattle.laws.specs.Tested.{Tested}
+use Rattle.laws.proofs.Tested.{pages-tested, rows-tested, sheet-tested, caller-below, live-names}
 use Rattle.delete_call.specs.Live.{Live}
 use Rattle.sheet.proofs.At.{at}
 use borrow.Author.Needs.{needs}

@@ -13,10 +13,11 @@ use Rattle.rules.specs.Words.{page-size, most-pages, record-size, records, litt
 use Rattle.rules.specs.Machine.{own, put, change, table-byte, amend, record-at, write, with-memory, written}
 use Rattle.rules.specs.Calls.{remapped}
 use Rattle.rules.specs.Flat.{Buffers, parts, parted}
-use Rattle.laws.proofs.Counts.{revise}
+use Rattle.laws.specs.Revised.{revise}
 use Rattle.laws.proofs.Parts.{length-parts}
 use Rattle.laws.proofs.FlatSteps.{sizes}
-use Rattle.laws.proofs.Tested.{Tested, pages-tested, memory-tested, sheet-tested, rows-tested, caller-below}
+use Rattle.laws.specs.Tested.{Tested}
+use Rattle.laws.proofs.Tested.{pages-tested, memory-tested, sheet-tested, rows-tested, caller-below}
 use Rattle.rules.specs.Flat.{memory-sized}
 use Rattle.sheet.proofs.At.{at}
 use borrow.Author.Needs.{needs}

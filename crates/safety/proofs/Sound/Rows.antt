@@ -17,7 +17,8 @@ use Rattle.laws.proofs.Ranges.{by-test, every→, →every, →exists, absent�
 use Rattle.laws.proofs.Counts.{one, one-le, count-set, exists-count, count-none}
 use Rattle.laws.proofs.Numbers.{length-zeros, zeros-at}
 use Rattle.laws.proofs.Records.{fields-zeros, is-live-zeros}
-use Rattle.laws.proofs.Tested.{Names, names}
+use Rattle.laws.specs.Tested.{Names}
+use Rattle.laws.proofs.Tested.{names}
 use Rattle.safety.proofs.Small.{and-false→, implied}
 use Rattle.safety.proofs.Sound.Facts.{Sound}
 use Rattle.safety.proofs.Sound.Sizes.{in-sheet, record-length}
