@@ -6,7 +6,8 @@ pub mod last;
 ghost use mathlib.Core.Path.{_≡_};
 ghost use Rattle.rules.specs.Answers.{Answered, code-number};
 ghost use Rattle.rules.specs.Call;
-ghost use Rattle.rules.specs.Flat.{Buffers, parted, call-bytes};
+ghost use Rattle.rules.specs.Flat.{Buffers, parted};
+ghost use Rattle.rules.specs.Promises.{Call-promise};
 ghost use Rattle.sheet.specs.Row.{Row};
 use query_calls::Told;
 use rules::Code;
@@ -107,15 +108,15 @@ pub fn call(
     caller: usize,
 ) -> Called
     ensures { λ r. ⌜
-        call-bytes caller
+        Call-promise caller
         (record { registers = g; machine = record { memory = now (memory .entry); table = now (table .entry); sheet = now (sheet .entry) } })
-        ≡ record {
+        (record {
           answer = r .outcome;
           after = record {
             registers = r .registers;
             machine = record { memory = now (memory .exit); table = now (table .exit); sheet = now (sheet .exit) };
           };
-        } ⌝ }
+        }) ⌝ }
 {
     let fits = pages::memory::fits(table.len(), memory.len());
     if !fits {

@@ -1,8 +1,7 @@
 // The call for a caller in Rattle, who lends the registers as one record and finds it changed in place. The promise is the one of `call::call`, which
 // takes and returns the registers by value; here the record that was lent is what came back. There is no `requires`, and nothing is assumed.
 // A reference to a struct is what the borrow checker does not cover: the proof is a walk by hand.
-ghost use mathlib.Core.Path.{_≡_};
-ghost use Rattle.rules.specs.Flat.{call-bytes};
+ghost use Rattle.rules.specs.Promises.{Call-promise};
 use rules::Outcome;
 use rules::Registers;
 
@@ -14,18 +13,18 @@ pub fn call(
     caller: usize,
 ) -> Outcome
     ensures { λ r. ⌜
-        call-bytes caller
+        Call-promise caller
         (record {
           registers = now (registers .entry);
           machine = record { memory = now (memory .entry); table = now (table .entry); sheet = now (sheet .entry) };
         })
-        ≡ record {
+        (record {
           answer = r;
           after = record {
             registers = now (registers .exit);
             machine = record { memory = now (memory .exit); table = now (table .exit); sheet = now (sheet .exit) };
           };
-        } ⌝ }
+        }) ⌝ }
 {
     let called = call::call(memory, table, sheet, *registers, caller);
     *registers = called.registers;

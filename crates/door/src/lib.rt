@@ -7,8 +7,9 @@ ghost use lib.ListN.{length};
 ghost use Rattle.rules.specs.Words.{registers-size};
 ghost use Rattle.rules.specs.Call.{Posed};
 ghost use Rattle.rules.specs.declared.Plan.{Plan};
-ghost use Rattle.rules.specs.Answers.{Answered, numbered, outcome-number, launched-number, verdict-number};
-ghost use Rattle.rules.specs.Flat.{Buffers, launch-bytes, store-bytes, mark-bytes, registers-of, register-bytes, door-bytes};
+ghost use Rattle.rules.specs.Answers.{Answered, outcome-number, launched-number, verdict-number};
+ghost use Rattle.rules.specs.Flat.{Buffers, registers-of, register-bytes};
+ghost use Rattle.rules.specs.Promises.{Monitor-launch-promise, Monitor-store-promise, Monitor-mark-promise, Monitor-call-promise};
 use rules::Launched;
 use rules::Outcome;
 use rules::Plan;
@@ -50,13 +51,13 @@ pub extern "C" fn monitor_launch(
     valid_below: usize,
 ) -> u32
     ensures { λ r. ⌜
-        numbered launched-number (launch-bytes n
+        Monitor-launch-promise n
         (record { first = «monitor_first»; count = «monitor_count»; vmsa = «vmsa_page»; calling = «calling_page»; apic = «apic_id»; valid = «valid_below» })
-        (record { memory = now (memory .entry); table = now (table .entry); sheet = now (sheet .entry) }))
-        ≡ record {
+        (record { memory = now (memory .entry); table = now (table .entry); sheet = now (sheet .entry) })
+        (record {
           answer = r;
           after = record { memory = now (memory .exit); table = now (table .exit); sheet = now (sheet .exit) };
-        } ⌝ }
+        }) ⌝ }
 {
     let plan = Plan {
         first: monitor_first,
@@ -79,16 +80,15 @@ pub extern "C" fn monitor_store(
     bytes: &[u8],
 ) -> u32
     ensures { λ r. ⌜
-        numbered verdict-number (store-bytes vmpl page offset (now (bytes .entry)) (now (table .entry)) (now (memory .entry)))
-        ≡ record { answer = r; after = now (memory .exit) } ⌝ }
+        Monitor-store-promise vmpl page offset (now (bytes .entry)) (now (table .entry)) (now (memory .entry))
+        (record { answer = r; after = now (memory .exit) }) ⌝ }
 {
     verdict(monitor::steps::store(memory, table, vmpl, page, offset, bytes))
 }
 
 #[no_mangle]
 pub extern "C" fn monitor_mark(sheet: &mut [u8], number: usize, running: u8) -> u32
-    ensures { λ r. ⌜
-        numbered verdict-number (mark-bytes number running (now (sheet .entry))) ≡ record { answer = r; after = now (sheet .exit) } ⌝ }
+    ensures { λ r. ⌜ Monitor-mark-promise number running (now (sheet .entry)) (record { answer = r; after = now (sheet .exit) }) ⌝ }
 {
     verdict(monitor::steps::mark(sheet, number, running))
 }
@@ -140,18 +140,18 @@ pub extern "C" fn monitor_call(
     caller: usize,
 ) -> u32
     ensures { λ r. ⌜
-        numbered outcome-number (door-bytes caller
+        Monitor-call-promise caller
         (record {
           registers = now (registers .entry);
           machine = record { memory = now (memory .entry); table = now (table .entry); sheet = now (sheet .entry) };
-        }))
-        ≡ record {
+        })
+        (record {
           answer = r;
           after = record {
             registers = now (registers .exit);
             machine = record { memory = now (memory .exit); table = now (table .exit); sheet = now (sheet .exit) };
           };
-        } ⌝ }
+        }) ⌝ }
 {
     if registers.len() != 48 {
         return outcome(Outcome::BadMachine);

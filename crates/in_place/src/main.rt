@@ -1,8 +1,7 @@
 // A caller in Rattle: it lends its registers to `door::in_place::call` as one record, and finds them changed where they lie. It makes a machine of three
 // pages and asks a Query. `lent` is proved to give what the call gives; for the rest the program promises nothing, and what it writes is held to the file
 // stdout beside src. Nothing is assumed but what the C library's write does.
-ghost use mathlib.Core.Path.{_≡_};
-ghost use Rattle.rules.specs.Flat.{call-bytes};
+ghost use Rattle.rules.specs.Promises.{Call-promise};
 use call::Called;
 use libc::STDOUT_FILENO;
 use rules::Launched;
@@ -33,15 +32,15 @@ fn lent(
     caller: usize,
 ) -> Called
     ensures { λ r. ⌜
-        call-bytes caller
+        Call-promise caller
         (record { registers = registers; machine = record { memory = now (memory .entry); table = now (table .entry); sheet = now (sheet .entry) } })
-        ≡ record {
+        (record {
           answer = r .outcome;
           after = record {
             registers = r .registers;
             machine = record { memory = now (memory .exit); table = now (table .exit); sheet = now (sheet .exit) };
           };
-        } ⌝ }
+        }) ⌝ }
 {
     let outcome = door::in_place::call(memory, table, sheet, &mut registers, caller);
     Called { outcome, registers }

@@ -5,7 +5,8 @@ ghost use lib.ListN.{length, getD};
 ghost use Rattle.rules.specs.Words.{page-size, record-size};
 ghost use Rattle.rules.specs.Answers.{Answered};
 ghost use Rattle.rules.specs.Launch.{in-monitor, out-of-range, areas-meet, launch-byte, launch-table, launch-sheet, made};
-ghost use Rattle.rules.specs.Flat.{Buffers, parts, parted, launch-bytes};
+ghost use Rattle.rules.specs.Flat.{Buffers, parts, parted};
+ghost use Rattle.rules.specs.Promises.{Launch-promise};
 ghost use Rattle.monitor.specs.Ready.{Ready};
 use rules::Launched;
 use rules::Plan;
@@ -120,11 +121,11 @@ pub fn launch(
     plan: Plan,
 ) -> Launched
     ensures { λ r. ⌜
-        launch-bytes n plan (record { memory = now (memory .entry); table = now (table .entry); sheet = now (sheet .entry) })
-        ≡ record {
+        Launch-promise n plan (record { memory = now (memory .entry); table = now (table .entry); sheet = now (sheet .entry) })
+        (record {
           answer = r;
           after = record { memory = now (memory .exit); table = now (table .exit); sheet = now (sheet .exit) };
-        } ⌝ }
+        }) ⌝ }
 {
     let fits = pages::memory::fits(table.len(), memory.len());
     if !fits {

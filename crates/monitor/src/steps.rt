@@ -1,7 +1,6 @@
 // The other steps: the store and the mark.
-ghost use mathlib.Core.Path.{_≡_};
 ghost use Rattle.rules.specs.Answers.{Answered};
-ghost use Rattle.rules.specs.Flat.{store-bytes, mark-bytes};
+ghost use Rattle.rules.specs.Promises.{Store-promise, Mark-promise};
 use rules::Verdict;
 
 // A store of bytes by a VMPL at an offset of a page.
@@ -14,8 +13,8 @@ pub fn store(
     bytes: &[u8],
 ) -> Verdict
     ensures { λ r. ⌜
-        store-bytes vmpl page offset (now (bytes .entry)) (now (table .entry)) (now (memory .entry))
-        ≡ record { answer = r; after = now (memory .exit) } ⌝ }
+        Store-promise vmpl page offset (now (bytes .entry)) (now (table .entry)) (now (memory .entry))
+        (record { answer = r; after = now (memory .exit) }) ⌝ }
 {
     let fits = pages::memory::fits(table.len(), memory.len());
     if !fits {
@@ -45,7 +44,7 @@ pub fn store(
 
 // A run or stop mark on a record.
 pub fn mark(sheet: &mut [u8], number: usize, running: u8) -> Verdict
-    ensures { λ r. ⌜ mark-bytes number running (now (sheet .entry)) ≡ record { answer = r; after = now (sheet .exit) } ⌝ }
+    ensures { λ r. ⌜ Mark-promise number running (now (sheet .entry)) (record { answer = r; after = now (sheet .exit) }) ⌝ }
 {
     if sheet.len() != 512 {
         return Verdict::Refused;

@@ -10,3 +10,4 @@ pub mod Calls
 pub mod Call
 pub mod Runs
 pub mod Flat
+pub mod Promises

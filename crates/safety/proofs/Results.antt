@@ -1,42 +1,43 @@
 -- Two results that the promise of a public function allows for the same input coincide: one law, and each promise an instance of it.
-use mathlib.Core.Path.{sym, _∙_}
-use Rattle.rules.specs.Answers.{Answered}
+use mathlib.Core.Path.{_≡_, sym, _∙_}
+use Rattle.rules.specs.Promises.{Launch-promise, Store-promise, Mark-promise, Call-promise}
+use Rattle.rules.specs.Promises.{Monitor-launch-promise, Monitor-store-promise, Monitor-mark-promise, Monitor-call-promise}
 use Rattle.safety.specs.Determined.{Determined, Launch-determined, Store-determined, Mark-determined, Call-determined}
 use Rattle.safety.specs.Determined.{Monitor-launch-determined, Monitor-store-determined, Monitor-mark-determined, Monitor-call-determined}
 
 -- what equals one thing is equal
-determined : {A B : Type 0} (promised : Answered A B) → Determined promised
+determined : {A : Type 0} (promised : A) → Determined (λ left. promised ≡ left)
 unfolding Determined
 determined promised one other e f = sym e ∙ f
 
 pub launch-determined : Launch-determined
-unfolding Launch-determined
-launch-determined n plan b = determined _
+unfolding Launch-determined Launch-promise
+launch-determined n plan lent = determined _
 
 pub store-determined : Store-determined
-unfolding Store-determined
-store-determined c p offset bytes table memory = determined _
+unfolding Store-determined Store-promise
+store-determined c p offset bytes table lent = determined _
 
 pub mark-determined : Mark-determined
-unfolding Mark-determined
-mark-determined i value sheet = determined _
+unfolding Mark-determined Mark-promise
+mark-determined i value lent = determined _
 
 pub call-determined : Call-determined
-unfolding Call-determined
-call-determined caller s = determined _
+unfolding Call-determined Call-promise
+call-determined caller lent = determined _
 
 pub monitor-launch-determined : Monitor-launch-determined
-unfolding Monitor-launch-determined
-monitor-launch-determined n plan b = determined _
+unfolding Monitor-launch-determined Monitor-launch-promise
+monitor-launch-determined n plan lent = determined _
 
 pub monitor-store-determined : Monitor-store-determined
-unfolding Monitor-store-determined
-monitor-store-determined c p offset bytes table memory = determined _
+unfolding Monitor-store-determined Monitor-store-promise
+monitor-store-determined c p offset bytes table lent = determined _
 
 pub monitor-mark-determined : Monitor-mark-determined
-unfolding Monitor-mark-determined
-monitor-mark-determined i value sheet = determined _
+unfolding Monitor-mark-determined Monitor-mark-promise
+monitor-mark-determined i value lent = determined _
 
 pub monitor-call-determined : Monitor-call-determined
-unfolding Monitor-call-determined
-monitor-call-determined caller s = determined _
+unfolding Monitor-call-determined Monitor-call-promise
+monitor-call-determined caller lent = determined _

@@ -8,6 +8,7 @@ use Rattle.rules.specs.Words.{records, record-size}
 use Rattle.rules.specs.Machine.{N}
 use Rattle.rules.specs.Call.{bad-machine, no-call}
 use Rattle.rules.specs.Flat.{Buffers, parted, memory-sized, sheet-sized, well-sized}
+use Rattle.rules.specs.Promises.{Call-promise}
 use Rattle.laws.proofs.FlatLaunch.{well-sized-by, same-sizes}
 use Rattle.laws.proofs.Tested.{caller-below}
 use Rattle.call.proofs.Outcomes.{call-unsized, call-bad, call-none, call-ended}
@@ -21,14 +22,14 @@ left-requires : tie.Need-left-requires
 left-requires c κs = search needs
 
 returns : tie.Need-returns
-unfolding well-sized memory-sized
+unfolding Call-promise well-sized memory-sized
 returns c = rw (c .left .ensures) (call-unsized _ _ _ (rw (sym (c .before .before .fits2 .ensures) ∙ not-true _ (c .before .if1 .taken))))
 
 left-requires-2 : tie.Need-left-requires-2
 left-requires-2 c κs = search needs
 
 returns-2 : tie.Need-returns-2
-unfolding well-sized memory-sized sheet-sized record-size records
+unfolding Call-promise well-sized memory-sized sheet-sized record-size records
 returns-2 c = rw (c .left2 .ensures) (call-unsized _ _ _ (rw (sym (c .before .before .before .fits2 .ensures) ∙ not-false _ (c .before .before .if1 .left), ne-eqb _ _ (c .before .if2 .taken))))
 
 bad-sheet-requires : tie.Need-bad-sheet-requires
@@ -42,7 +43,7 @@ same-length : tie.Need-same-length
 same-length c = search needs
 
 returns-3 : tie.Need-returns-3
-unfolding bad-machine N parted
+unfolding Call-promise bad-machine N parted
 returns-3 c =
     let a = c .before .before .before .before .before .before .before .before .before .before .args in
     let b : Buffers = record { memory = now (a .memory); table = now (a .table); sheet = now (a .sheet) } in
@@ -71,7 +72,7 @@ same-length-4 : tie.Need-same-length-4
 same-length-4 c = search needs
 
 returns-4 : tie.Need-returns-4
-unfolding bad-machine N parted no-call
+unfolding Call-promise bad-machine N parted no-call
 returns-4 c =
     let a = c .before .before .before .before .before .before .before .before .before .before .before .before .before .before .before .args in
     let b : Buffers = record { memory = now (a .memory); table = now (a .table); sheet = now (a .sheet) } in
@@ -92,7 +93,7 @@ same-length-7 : tie.Need-same-length-7
 same-length-7 c = search needs
 
 returns-5 : tie.Need-returns-5
-unfolding bad-machine N parted no-call
+unfolding Call-promise bad-machine N parted no-call
 returns-5 c =
     let a = c .before .before .before .before .before .before .before .before .before .before .before .before .before .before .before .before .before .args in
     let b : Buffers = record { memory = now (a .memory); table = now (a .table); sheet = now (a .sheet) } in
@@ -128,7 +129,7 @@ same-length-10 : tie.Need-same-length-10
 same-length-10 c = search needs
 
 returns-6 : tie.Need-returns-6
-unfolding bad-machine N parted no-call
+unfolding Call-promise bad-machine N parted no-call
 returns-6 c =
     let a = c .before .before .before .before .before .before .before .before .before .before .before .before .before .before .before .before .before .before .before .before .before .before .before .before .before .before .before .before .before .before .before .before .args in
     let b : Buffers = record { memory = now (a .memory); table = now (a .table); sheet = now (a .sheet) } in

@@ -4,6 +4,7 @@ use Rattle.rules.specs.Words.{registers-size}
 use borrow.Author.Tests.{eq-eqb, ne-eqb}
 use Rattle.rules.specs.Answers.{numbered, outcome-number, refuse}
 use Rattle.rules.specs.Flat.{door-bytes}
+use Rattle.rules.specs.Promises.{Call-promise, Monitor-call-promise}
 use borrow.Author.Needs.{needs}
 use Rattle.door.proofs.monitor_call.Statement.{statement}
 use Rattle.door.proofs.monitor_call.Tie as tie
@@ -12,7 +13,7 @@ outcome-requires : tie.Need-outcome-requires
 outcome-requires c κs = search needs
 
 returns : tie.Need-returns
-unfolding numbered door-bytes refuse registers-size
+unfolding Call-promise Monitor-call-promise numbered door-bytes refuse registers-size
 returns c = rw (ne-eqb _ _ (c .before .if1 .taken), c .outcome .ensures)
 
 read-registers-requires : tie.Need-read-registers-requires
@@ -42,7 +43,7 @@ same-length-4 : tie.Need-same-length-4
 same-length-4 c = search needs
 
 returns-2 : tie.Need-returns-2
-unfolding numbered door-bytes refuse registers-size
+unfolding Call-promise Monitor-call-promise numbered door-bytes refuse registers-size
 returns-2 c = rw (eq-eqb _ _ (c .before .before .before .before .before .before .before .before .before .before .before .before .before .before .before .before .before .before .if1 .left), ← c .before .before .before .before .before .before .before .before .before .before .before .before .before .before .before .before .read-registers .ensures, c .before .before .before .before .before .before .before .before .before .before .before .before .call .ensures, c .before .before .before .write-registers .ensures, ← c .outcome2 .ensures)
 
 pub monitor-call-spec : {M : Type 1} → statement M

@@ -1,6 +1,7 @@
 -- `door::monitor_launch` meets its contract: the monitor's answer, as the paper's number.
 -- Assumes nothing.
 use Rattle.rules.specs.Answers.{numbered}
+use Rattle.rules.specs.Promises.{Launch-promise, Monitor-launch-promise}
 use borrow.Author.Needs.{needs}
 use Rattle.door.proofs.monitor_launch.Statement.{statement}
 use Rattle.door.proofs.monitor_launch.Tie as tie
@@ -21,7 +22,7 @@ same-length-3 : tie.Need-same-length-3
 same-length-3 c = search needs
 
 returns : tie.Need-returns
-unfolding numbered
+unfolding Launch-promise Monitor-launch-promise numbered
 returns c = rw (c .before .before .before .before .before .before .before .launch .ensures, ← c .launched .ensures)
 
 pub monitor-launch-spec : {M : Type 1} → statement M

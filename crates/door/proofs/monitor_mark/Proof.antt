@@ -1,6 +1,7 @@
 -- `door::monitor_mark` meets its contract: the monitor's answer, as the paper's number.
 -- Assumes nothing.
 use Rattle.rules.specs.Answers.{numbered}
+use Rattle.rules.specs.Promises.{Mark-promise, Monitor-mark-promise}
 use borrow.Author.Needs.{needs}
 use Rattle.door.proofs.monitor_mark.Statement.{statement}
 use Rattle.door.proofs.monitor_mark.Tie as tie
@@ -15,7 +16,7 @@ same-length : tie.Need-same-length
 same-length c = search needs
 
 returns : tie.Need-returns
-unfolding numbered
+unfolding Mark-promise Monitor-mark-promise numbered
 returns c = rw (c .before .before .before .mark .ensures, ← c .verdict .ensures)
 
 pub monitor-mark-spec : {M : Type 1} → statement M

@@ -1,6 +1,7 @@
 -- `door::monitor_store` meets its contract: the monitor's answer, as the paper's number.
 -- Assumes nothing.
 use Rattle.rules.specs.Answers.{numbered}
+use Rattle.rules.specs.Promises.{Store-promise, Monitor-store-promise}
 use borrow.Author.Needs.{needs}
 use Rattle.door.proofs.monitor_store.Statement.{statement}
 use Rattle.door.proofs.monitor_store.Tie as tie
@@ -15,7 +16,7 @@ same-length : tie.Need-same-length
 same-length c = search needs
 
 returns : tie.Need-returns
-unfolding numbered
+unfolding Store-promise Monitor-store-promise numbered
 returns c = rw (c .before .before .before .store .ensures, ← c .verdict .ensures)
 
 pub monitor-store-spec : {M : Type 1} → statement M

@@ -47,7 +47,7 @@ use denote.Triple.Spec.{Meets, tripleOf}
 use denote.Triple.Table.{entered, cited}
 use denote.Triple.Walked.{says, Stays, stay-none, gave-slice, walkOf, AllGo, goes-none, goes-gave-slice, Walks, ends-at, walked, walk-meets}
 use denote.Exit.{yes}
-use Rattle.rules.specs.Flat.{call-bytes}
+use Rattle.rules.specs.Promises.{Call-promise}
 use Rattle.rules.specs.declared.Registers.{Registers}
 use Rattle.rules.specs.declared.Outcome.{Outcome}
 use Rattle.rules.proofs.Registers as R
@@ -185,11 +185,11 @@ module _ {M : Type 1} (𝓤 : URA M) (H : Heap 𝓤) (A : Atoms 𝓤) (W : Given
   -- what the callee says of its answer, of the last bytes and of the last registers
   abbrev Said : Outcome → Ends → Type 0
   Said r zs =
-      call-bytes n (record { registers = g; machine = record { memory = m .now; table = t .now; sheet = s .now } })
-      ≡ record {
+      Call-promise n (record { registers = g; machine = record { memory = m .now; table = t .now; sheet = s .now } })
+      (record {
         answer = r;
         after = record { registers = zs .1 .1 .1 .0; machine = record { memory = zs .0; table = zs .1 .0; sheet = zs .1 .1 .0 } };
-      }
+      })
 
   -- what is left where the locals are freed
   abbrev Left : Ends → List (Item 𝓤)

@@ -47,7 +47,7 @@ use denote.Triple.Table.{entered, cited}
 use denote.Triple.Walked.{says, Stays, stay-ref, stay-none, gave-slice, walkOf, AllGo, goes-none, goes-ref, goes-gave-slice, Walks, ends-at}
 use denote.Triple.Walked.{walked, walk-meets}
 use denote.Exit.{yes}
-use Rattle.rules.specs.Flat.{call-bytes}
+use Rattle.rules.specs.Promises.{Call-promise}
 use Rattle.rules.specs.declared.Registers.{Registers}
 use Rattle.rules.proofs.Registers as R
 use Rattle.rules.proofs.Registers.Laws as R′
@@ -151,11 +151,11 @@ module _ {M : Type 1} (𝓤 : URA M) (H : Heap 𝓤) (A : Atoms 𝓤) (W : Given
   -- what the callee says of its result and of the last bytes
   abbrev Said : Called → Ends → Type 0
   Said r zs =
-      call-bytes n (record { registers = g; machine = record { memory = m .now; table = t .now; sheet = s .now } })
-      ≡ record {
+      Call-promise n (record { registers = g; machine = record { memory = m .now; table = t .now; sheet = s .now } })
+      (record {
         answer = r .outcome;
         after = record { registers = r .registers; machine = record { memory = zs .0; table = zs .1 .0; sheet = zs .1 .1 .0 } };
-      }
+      })
 
   -- what is left where the locals are freed
   abbrev Left : Called → Ends → List (Item 𝓤)

@@ -9,6 +9,7 @@ use denote.Ref.{now}
 use Rattle.rules.specs.Words.{records, record-size}
 use Rattle.rules.specs.Machine.{N, page-at}
 use Rattle.rules.specs.Flat.{Buffers, parted, memory-fits, memory-sized, sheet-sized, well-sized}
+use Rattle.rules.specs.Promises.{Launch-promise}
 use Rattle.laws.proofs.FlatSteps.{sizes, length-pages}
 use Rattle.laws.proofs.FlatLaunch.{well-sized-by, same-sizes, in-range, launch-unsized, launch-out-of-range, launch-areas-meet, launch-unfit, launch-made}
 use borrow.Author.Needs.{needs}
@@ -19,14 +20,15 @@ fits-requires : tie.Need-fits-requires
 fits-requires c κs = search needs
 
 returns : tie.Need-returns
-unfolding well-sized memory-sized
+unfolding Launch-promise well-sized memory-sized
 returns c = launch-unsized _ _ _ (rw (sym (c .before .fits2 .ensures) ∙ not-true _ (c .if1 .taken)))
 
 returns-2 : tie.Need-returns-2
-unfolding well-sized memory-sized sheet-sized record-size records
+unfolding Launch-promise well-sized memory-sized sheet-sized record-size records
 returns-2 c = launch-unsized _ _ _ (rw ((sym (c .before .before .fits2 .ensures) ∙ not-false _ (c .before .if1 .left)), ne-eqb _ _ (c .if2 .taken)))
 
 returns-3 : tie.Need-returns-3
+unfolding Launch-promise
 returns-3 c =
     let a = c .before .before .before .before .before .before .before .args in
     let b : Buffers = record { memory = now (a .memory); table = now (a .table); sheet = now (a .sheet) } in
@@ -37,7 +39,7 @@ out-of-range-requires : tie.Need-out-of-range-requires
 out-of-range-requires c κs = search needs
 
 returns-4 : tie.Need-returns-4
-unfolding N parted
+unfolding Launch-promise N parted
 returns-4 c =
     let a = c .before .before .before .before .before .before .before .before .before .args in
     let b : Buffers = record { memory = now (a .memory); table = now (a .table); sheet = now (a .sheet) } in
@@ -49,7 +51,7 @@ areas-meet-requires : tie.Need-areas-meet-requires
 areas-meet-requires c κs = search needs
 
 returns-5 : tie.Need-returns-5
-unfolding N parted
+unfolding Launch-promise N parted
 returns-5 c =
     let a = c .before .before .before .before .before .before .before .before .before .before .before .args in
     let b : Buffers = record { memory = now (a .memory); table = now (a .table); sheet = now (a .sheet) } in
@@ -71,7 +73,7 @@ same-length : tie.Need-same-length
 same-length c = search needs
 
 returns-6 : tie.Need-returns-6
-unfolding N parted page-at
+unfolding Launch-promise N parted page-at
 returns-6 c =
     let a = c .before .before .before .before .before .before .before .before .before .before .before .before .before .before .args in
     let b : Buffers = record { memory = now (a .memory); table = now (a .table); sheet = now (a .sheet) } in
@@ -102,7 +104,7 @@ same-length-4 : tie.Need-same-length-4
 same-length-4 c = search needs
 
 returns-7 : tie.Need-returns-7
-unfolding N parted page-at
+unfolding Launch-promise N parted page-at
 returns-7 c =
     let a = c .before .before .before .before .before .before .before .before .before .before .before .before .before .before .before .before .before .before .before .before .before .before .before .before .args in
     let b : Buffers = record { memory = now (a .memory); table = now (a .table); sheet = now (a .sheet) } in

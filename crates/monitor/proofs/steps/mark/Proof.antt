@@ -6,6 +6,7 @@ use Rattle.rules.specs.Words.{record-size, records}
 use Rattle.rules.specs.Machine.{is-live, fields, record-at}
 use Rattle.rules.specs.Steps.{may-mark}
 use Rattle.rules.specs.Flat.{parted, sheet-sized}
+use Rattle.rules.specs.Promises.{Mark-promise}
 use Rattle.laws.proofs.FlatSteps.{mark-unsized, mark-refused, mark-done}
 use Rattle.sheet.proofs.At.{at}
 use borrow.Author.Needs.{needs}
@@ -13,15 +14,15 @@ use Rattle.monitor.proofs.steps.mark.Statement.{statement}
 use Rattle.monitor.proofs.steps.mark.Tie as tie
 
 returns : tie.Need-returns
-unfolding sheet-sized record-size records
+unfolding Mark-promise sheet-sized record-size records
 returns c = mark-unsized _ _ _ (ne-eqb _ _ (c .if1 .taken))
 
 returns-2 : tie.Need-returns-2
-unfolding sheet-sized record-size records may-mark is-live fields record-at parted
+unfolding Mark-promise sheet-sized record-size records may-mark is-live fields record-at parted
 returns-2 c = mark-refused _ _ _ (eq-eqb _ _ (c .before .if1 .left)) (rw (le-ltb _ _ (c .if2 .taken)))
 
 returns-3 : tie.Need-returns-3
-unfolding sheet-sized record-size records may-mark is-live fields record-at parted
+unfolding Mark-promise sheet-sized record-size records may-mark is-live fields record-at parted
 returns-3 c = mark-refused _ _ _ (eq-eqb _ _ (c .before .before .if1 .left)) (rw (lt-ltb _ _ (c .before .if2 .left), lt-leb _ _ (c .if3 .taken)))
 
 byte-requires : tie.Need-byte-requires
@@ -32,7 +33,7 @@ same-length : tie.Need-same-length
 same-length c = search needs
 
 returns-4 : tie.Need-returns-4
-unfolding sheet-sized record-size records may-mark is-live fields record-at parted
+unfolding Mark-promise sheet-sized record-size records may-mark is-live fields record-at parted
 returns-4 c =
     mark-refused _ _ _ (eq-eqb _ _ (c .before .before .before .before .before .if1 .left))
     (rw (lt-ltb _ _ (c .before .before .before .before .if2 .left), le-leb _ _ (c .before .before .before .if3 .left), ← c .before .byte .ensures, ne-eqb _ 1 (c .if4 .taken)))
@@ -45,7 +46,7 @@ same-length-2 : tie.Need-same-length-2
 same-length-2 c = search needs
 
 returns-5 : tie.Need-returns-5
-unfolding sheet-sized record-size records may-mark is-live fields record-at parted
+unfolding Mark-promise sheet-sized record-size records may-mark is-live fields record-at parted
 returns-5 c =
     mark-done _ _ _ _ (eq-eqb _ _ (c .before .before .before .before .before .before .before .before .before .if1 .left))
     (rw (lt-ltb _ _ (c .before .before .before .before .before .before .before .before .if2 .left), le-leb _ _ (c .before .before .before .before .before .before .before .if3 .left), ← c .before .before .before .before .before .byte .ensures, eq-eqb _ 1 (c .before .before .before .before .if4 .left)))

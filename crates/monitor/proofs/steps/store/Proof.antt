@@ -11,6 +11,7 @@ use Rattle.rules.specs.Words.{page-size}
 use Rattle.rules.specs.Machine.{below, N, table-byte}
 use Rattle.rules.specs.Steps.{may-store}
 use Rattle.rules.specs.Flat.{parted, memory-sized}
+use Rattle.rules.specs.Promises.{Store-promise}
 use Rattle.laws.proofs.FlatSteps.{store-unsized, store-refused, store-done, length-pages}
 use borrow.Author.Needs.{needs}
 use Rattle.monitor.proofs.steps.store.Statement.{statement}
@@ -20,15 +21,15 @@ fits-requires : tie.Need-fits-requires
 fits-requires c κs = search needs
 
 returns : tie.Need-returns
-unfolding memory-sized
+unfolding Store-promise memory-sized
 returns c = store-unsized _ _ _ _ _ _ (sym (c .before .fits2 .ensures) ∙ not-true _ (c .if1 .taken))
 
 returns-2 : tie.Need-returns-2
-unfolding may-store below N table-byte parted page-size memory-sized
+unfolding Store-promise may-store below N table-byte parted page-size memory-sized
 returns-2 c = store-refused _ _ _ _ _ _ (sym (c .before .before .fits2 .ensures) ∙ not-false _ (c .before .if1 .left)) (rw (le-ltb _ _ (c .if2 .taken)))
 
 returns-3 : tie.Need-returns-3
-unfolding may-store below N table-byte parted page-size memory-sized
+unfolding Store-promise may-store below N table-byte parted page-size memory-sized
 returns-3 c =
     let start = c .before .before .before .before .before .before .before in
     let offset = start .args .offset in
@@ -36,7 +37,7 @@ returns-3 c =
     store-refused _ _ _ _ _ _ (sym (c .before .before .before .fits2 .ensures) ∙ not-false _ (c .before .before .if1 .left)) (rw (lt-ltb _ _ (c .before .if2 .left), lt-leb (offset + length bytes) 4096 (omega arith)))
 
 returns-4 : tie.Need-returns-4
-unfolding may-store below N table-byte parted page-size memory-sized
+unfolding Store-promise may-store below N table-byte parted page-size memory-sized
 returns-4 c =
     let start = c .before .before .before .before .before .before .before .before in
     let offset = start .args .offset in
@@ -50,7 +51,7 @@ is-valid-requires : tie.Need-is-valid-requires
 is-valid-requires c κs = search needs
 
 returns-5 : tie.Need-returns-5
-unfolding may-store below N table-byte parted page-size memory-sized
+unfolding Store-promise may-store below N table-byte parted page-size memory-sized
 returns-5 c =
     let start = c .before .before .before .before .before .before .before .before .before .before .before in
     let offset = start .args .offset in
@@ -62,7 +63,7 @@ is-permitted-requires : tie.Need-is-permitted-requires
 is-permitted-requires c κs = search needs
 
 returns-6 : tie.Need-returns-6
-unfolding may-store below N table-byte parted page-size memory-sized
+unfolding Store-promise may-store below N table-byte parted page-size memory-sized
 returns-6 c =
     let start = c .before .before .before .before .before .before .before .before .before .before .before .before .before in
     let offset = start .args .offset in
@@ -88,7 +89,7 @@ same-length : tie.Need-same-length
 same-length c = search needs
 
 returns-7 : tie.Need-returns-7
-unfolding may-store below N table-byte parted page-size memory-sized
+unfolding Store-promise may-store below N table-byte parted page-size memory-sized
 returns-7 c =
     let start = c .before .before .before .before .before .before .before .before .before .before .before .before .before .before .before .before .before in
     let offset = start .args .offset in
