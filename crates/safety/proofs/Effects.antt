@@ -121,6 +121,11 @@ module _ (p offset : ℕ) (bytes : List ℕ) (m : Lent) where
   unfolding page-at write with-memory written
   page-written h = getD-set-same (m .memory) p (sets (getD (m .memory) p []) offset bytes) [] h
 
+  -- as many pages as before
+  pub memory-written : length (write p offset bytes m .memory) ≡ length (m .memory)
+  unfolding write with-memory written
+  memory-written = length-set (m .memory) p _
+
   -- each other page
   pub page-not-written : (q : ℕ) → (q ≡ p → ⊥) → page-at (write p offset bytes m) q ≡ page-at m q
   unfolding page-at write with-memory written

@@ -2,4 +2,5 @@
 pub mod Sealed
 pub mod Untouched
 pub mod Fates
+pub mod Given
 pub mod Steps

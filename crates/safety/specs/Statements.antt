@@ -23,8 +23,8 @@ use Rattle.rules.specs.Sound.{table-sized, pages-sized, sound}
 use Rattle.rules.specs.Lists.{list-next, list-entry, read-entry, carry-out-all, store-index, run}
 use Rattle.rules.specs.Call.{Posed}
 use Rattle.rules.specs.Flat.{Buffers, parted, well-sized, sound-bytes, launch-bytes, call-bytes, registers-of, door-bytes}
-use Rattle.rules.specs.Runs.{Step, calls, stores, marks, called, step, run-steps, pool, handled-as, taken-in, given-back, over-run}
-use Rattle.safety.specs.Terms.{Back, deletes, gives-back, all-succeed, Same-page, Kept-page, in-pool, in-use, rounds, withdrawals, Recovered}
+use Rattle.rules.specs.Runs.{Step, calls, stores, marks, called, step, run-steps, in-pool, pool, handled-as, taken-in, given-back, over-run}
+use Rattle.safety.specs.Terms.{Back, deletes, gives-back, all-succeed, Same-page, Kept-page, in-use, rounds, withdrawals, Recovered}
 use Rattle.safety.specs.Terms.{unreal, Left-by-gone, refused, Left-by-refusal, covers, covers-valid, second-code, Invalidated-before, Confined}
 use Rattle.safety.specs.Terms.{bytes-back, door-back, Act, store-act, mark-act, act, acts, act-deletes, act-gives-back, act-taken-in, act-given-back, over-acts, all-acts-succeed}
 use Rattle.safety.specs.Terms.{withdrawal-acts}

@@ -7,7 +7,7 @@ use mathlib.Core.List.{List, [], _∷_}
 use Prim.Native.Nat.{ℕ, zero, suc, _+_, _-_, _*_, _/_, _<_, _≤_}
 use lib.Dec.{ltb, eqb}
 use lib.ListN.{getD, set}
-use Rattle.rules.specs.Words.{page-size, record-size, large, multiple, bits, bit, without-bit, little, number, every, exists, count}
+use Rattle.rules.specs.Words.{page-size, record-size, large, multiple, bits, bit, without-bit, little, number, range, every, exists, count}
 use Rattle.rules.specs.declared.Registers.{Registers}
 use Rattle.rules.specs.declared.Vcpu.{Vcpu}
 use Rattle.rules.specs.declared.Outcome.{Outcome}
@@ -23,18 +23,15 @@ use Rattle.rules.specs.Machine.{Lent, Machine, _▷_, below, page-of, page-at, 
 use Rattle.rules.specs.Machine.{grant, own, table-byte, owned-by, is-live, record-at, vcpu, startup}
 use Rattle.rules.specs.Lists.{list-count, list-next, list-entry, covered, read-entry, run-within}
 use Rattle.rules.specs.Calls.{any-free, is-free}
-use Rattle.rules.specs.Call.{Posed, with-rax, protocol, call-number, pending}
+use Rattle.rules.specs.Call.{Posed, with-rax, pending}
 use Rattle.rules.specs.Flat.{Buffers, parted, store-bytes, mark-bytes, call-bytes, registers-of, register-bytes, door-bytes}
-use Rattle.rules.specs.Runs.{Step, calls, stores, marks, called, step, taken-by, given-by, handled-as, head-accepted}
+use Rattle.rules.specs.Runs.{Step, calls, stores, marks, called, step, asks-for, taken-by, given-by, head-accepted}
 
 -- ---- What a call comes back with
 
 -- the outcome, the registers and the machine
 abbrev pub Back : Type 0
 Back = Answered Outcome (Posed Registers Machine)
-
-unfoldable pub asks-for : ℕ → Registers → Bool
-asks-for n g = eqb (protocol g) 0 && eqb (call-number g) n
 
 -- outcome 0 and code 0, or outcome 2
 unfoldable pub done-well : Outcome → Registers → Bool
@@ -47,13 +44,18 @@ done-well BadMachine after = false
 unfoldable pub deleted-by : ℕ → Registers → Back → Bool
 deleted-by p g a = asks-for 3 g && eqb (page-of (g .rcx)) p && done-well (a .answer) (a .after .registers)
 
--- a Withdraw, done, that gave back this very page, which is plain after it
-unfoldable pub given-back-by : ℕ → Registers → Back → Bool
-given-back-by p g a = asks-for 5 g && owned-by plain (a .after .machine .lent) p && done-well (a .answer) (a .after .registers)
-
 -- outcome 0 and code 0
 unfoldable pub succeeded-by : Back → Bool
 succeeded-by a = eqb (outcome-number (a .answer)) 0 && eqb (a .after .registers .rax) 0
+
+-- page p is told by the list at RCX: its gPA is an entry below the count
+unfoldable pub tells-page : ℕ → ℕ → Lent → Bool
+tells-page p rcx m = exists (λ k. eqb (list-entry k rcx m) (page-size * p)) (range 0 (list-count rcx m))
+
+-- a Withdraw with outcome 0 and code 0 that gave back this very page: it is plain after it, and the list tells it
+unfoldable pub given-back-by : ℕ → Registers → Back → Bool
+given-back-by p g a =
+    asks-for 5 g && succeeded-by a && owned-by plain (a .after .machine .lent) p && tells-page p (g .rcx) (a .after .machine .lent)
 
 -- ---- Steps on a machine
 
@@ -79,21 +81,17 @@ all-succeed (s ∷ ss) m = succeeds s m && all-succeed ss (step s m)
 
 -- ---- A page
 
--- its bytes, validity and permissions are as they were
+-- its bytes and bits 7:3 of its table byte, validity and permissions, are as they were
 pub record Same-page (p : ℕ) (m after : Lent) : Type 0 where
   pub bytes : page-at after p ≡ page-at m p
-  pub validity : valid (table-byte after p) ≡ valid (table-byte m p)
-  pub permissions : (c : ℕ) → permitted c (table-byte after p) ≡ permitted c (table-byte m p)
+  pub flags : table-byte after p / 8 ≡ table-byte m p / 8
 
--- and so is its owner
+-- its bytes and its whole table byte are as they were
 pub record Kept-page (p : ℕ) (m after : Lent) : Type 0 where
-  pub same : Same-page p m after
-  pub owned : owner (table-byte after p) ≡ owner (table-byte m p)
+  pub bytes : page-at after p ≡ page-at m p
+  pub byte : table-byte after p ≡ table-byte m p
 
 -- ---- The pool
-
-unfoldable pub in-pool : ℕ → Bool
-in-pool b = eqb (owner b) pool-free || eqb (owner b) pool-in-use
 
 unfoldable pub in-use : Lent → ℕ
 in-use m = count (λ b. eqb (owner b) pool-in-use) (m .table)
@@ -275,7 +273,7 @@ act-gives-back p (store-act c q offset bytes) b = false
 act-gives-back p (mark-act i value) b = false
 
 unfoldable pub act-taken-in : Act → Buffers → ℕ
-act-taken-in (call-act caller registers) b = taken-by caller (registers-of registers) (parted b) (door-back caller registers b)
+act-taken-in (call-act caller registers) b = taken-by (registers-of registers) (parted b) (door-back caller registers b)
 act-taken-in (store-act c p offset bytes) b = 0
 act-taken-in (mark-act i value) b = 0
 

@@ -22,9 +22,9 @@ use Rattle.rules.specs.Lists.{list-count, list-next, list-entry, store-index, b
 use Rattle.rules.specs.Lists.{list-call}
 use Rattle.rules.specs.Calls.{remap, create, delete, withdraw, configure, vtom}
 use Rattle.rules.specs.Call.{Posed, with-rax, with-rcx, on-lent, on-rcx, handle, clear-pending, set-flag, finish, call}
-use Rattle.rules.specs.Runs.{head-accepted}
+use Rattle.rules.specs.Runs.{asks-for, head-accepted}
 use Rattle.laws.proofs.Ranges.{by-test}
-use Rattle.safety.specs.Terms.{asks-for, unreal, refused, last-writes, number-of-list-call, At-entry, Left-by-refusal}
+use Rattle.safety.specs.Terms.{unreal, refused, last-writes, number-of-list-call, At-entry, Left-by-refusal}
 use Rattle.safety.specs.Statements.{On-machines, Refusal-law}
 use Rattle.safety.proofs.Branches.{on-test, on-refuse, never, on-handle, called-real, real-call}
 use Rattle.safety.proofs.Entries.{count-kept, entry-kept, read-stored, run-within-sheet}

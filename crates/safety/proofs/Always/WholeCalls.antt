@@ -1,30 +1,25 @@
 -- Statement 9 of whole calls. An entry that the index has passed is one of the run: whatever else a call does leaves the index as it was.
 use mathlib.Core.Path.{_≡_, refl, sym, _∙_}
-use mathlib.Core.Logic.{inr}
-use mathlib.Core.Bool.{true, false, cond, _&&_, true≢false, and-eq-true-iff}
-use mathlib.Core.List.{[], _∷_}
+use mathlib.Core.Bool.{true, false, true≢false, and-eq-true-iff}
 use Prim.Native.Nat.{ℕ}
 use native.Mathlib.Omega.{arith}
 use lib.Dec.{eqb}
 use borrow.Author.Tests.{eqb-true, eqb-false}
 use Rattle.rules.specs.declared.Registers.{Registers}
-use Rattle.rules.specs.declared.Code.{Code}
 use Rattle.rules.specs.declared.Outcome.{Outcome}
 use Rattle.rules.specs.declared.Outcome.the-variants.{Handled, NoCall, Gone, BadMachine}
 use Rattle.rules.specs.declared.ListCall.the-variants.{Pvalidate}
-use Rattle.rules.specs.Answers.{Answered, outcome-number}
+use Rattle.rules.specs.Answers.{outcome-number}
 use Rattle.rules.specs.Words.{entries-a-call}
-use Rattle.rules.specs.Machine.{Lent, Machine, with-lent, is-live, record-at, startup}
+use Rattle.rules.specs.Machine.{Lent, Machine, with-lent}
 use Rattle.rules.specs.Lists.{list-next, run-within}
-use Rattle.rules.specs.Calls.{any-free}
-use Rattle.rules.specs.Call.{Posed, protocol, call-number, on-lent, on-rcx, handle, clear-pending, set-flag, finish}
-use Rattle.rules.specs.Runs.{called, handled-as}
-use Rattle.laws.proofs.Ranges.{by-test}
-use Rattle.safety.specs.Terms.{unreal, last-writes}
+use Rattle.rules.specs.Call.{protocol, call-number, on-lent, on-rcx, handle}
+use Rattle.rules.specs.Runs.{called, asks-for, handled-as}
+use Rattle.safety.specs.Terms.{unreal}
 use Rattle.safety.specs.Statements.{On-machines, Validation-law}
 use Rattle.safety.proofs.Branches.{Asks, on-handle, called-real, real-call}
 use Rattle.safety.proofs.Checks.{past-list}
-use Rattle.safety.proofs.Pool.Bytes.{in-list-write, in-list-last}
+use Rattle.safety.proofs.Pool.Bytes.{finish-index}
 use Rattle.safety.proofs.Always.ValidationRuns.{Excused, run-excused}
 
 -- a call that is handled is one
@@ -37,21 +32,11 @@ handled-real n g BadMachine h = absurd (true≢false (sym h))
 
 -- and asks for that call
 handled-asks : (n : ℕ) (g : Registers) (o : Outcome) → handled-as n g o ≡ true → Asks n g
-unfolding handled-as
+unfolding handled-as asks-for
 handled-asks n g o h =
-    let both = and-eq-true-iff (eqb (outcome-number o) 0 && eqb (protocol g) 0) (eqb (call-number g) n) .0 h in
-    let inner = and-eq-true-iff (eqb (outcome-number o) 0) (eqb (protocol g) 0) .0 (both .0) in
-    record { spoken = eqb-true _ 0 (inner .1); number = eqb-true _ n (both .1) }
-
--- the last writes are in bytes 0 and 1 of a page, and the index behind them
-finish-index : (caller rcx : ℕ) (g : Registers) (a : Answered Code (Posed Registers Machine))
-    → list-next rcx (finish caller g a .after .machine .lent) ≡ list-next rcx (a .after .machine .lent)
-unfolding finish with-lent list-next last-writes clear-pending set-flag
-finish-index caller rcx g a =
-    let m = a .after .machine .lent in
-    by-test (is-live (record-at m caller))
-    (λ t. rw t (in-list-last caller rcx 2 2 m (λ e. omega arith) (λ e. omega arith)))
-    (λ t. rw t (in-list-write (startup m .calling) 1 (cond (any-free m) 1 0 ∷ []) m 2 2 rcx (λ e. inr (omega arith))))
+    let asks = and-eq-true-iff (eqb (outcome-number o) 0) (asks-for n g) .0 h .1 in
+    let both = and-eq-true-iff (eqb (protocol g) 0) (eqb (call-number g) n) .0 asks in
+    record { spoken = eqb-true _ 0 (both .0); number = eqb-true _ n (both .1) }
 
 -- where the index is as it was no entry is passed
 still-excused : (caller rcx p i : ℕ) (m : Lent) → Excused caller rcx p i m m

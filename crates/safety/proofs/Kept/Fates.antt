@@ -2,18 +2,19 @@
 -- delete that VMSA or to give back that page.
 use mathlib.Core.Path.{_≡_, refl, sym, _∙_, ap}
 use mathlib.Core.Bool.{true, false}
-use Prim.Native.Nat.{ℕ, _<_}
+use Prim.Native.Nat.{ℕ, _/_, _<_}
 use native.Mathlib.Omega.{arith}
 use lib.Dec.{eqb, ltb}
 use lib.ListN.{length}
-use borrow.Author.Tests.{eqb-true, eqb-false, ne-eqb}
+use borrow.Author.Tests.{eqb-true, eqb-false, ltb-true, ne-eqb}
 use Rattle.rules.specs.declared.Code.the-variants.{Success}
-use Rattle.rules.specs.Machine.{Lent, N, owner, valid, permitted, grant, own, revoke, table-byte, put, change, page-at, page-of, is-live, holds, needs-page}
+use Rattle.rules.specs.Machine.{Lent, N, owner, grant, own, revoke, table-byte, put, change, page-at, page-of, is-live, holds, needs-page}
 use Rattle.rules.specs.Machine.{record-at, vcpu}
 use Rattle.rules.specs.Calls.{remapped, remap, Asked, free-page, created, create, clear-svme, deleted, delete}
+use Rattle.rules.specs.Runs.{in-pool}
 use Rattle.laws.proofs.Ranges.{by-test}
-use Rattle.laws.proofs.TableByte.{owner-own, valid-own, permitted-own}
-use Rattle.safety.specs.Terms.{Same-page, in-pool}
+use Rattle.laws.proofs.TableByte.{owner-own}
+use Rattle.safety.specs.Terms.{Same-page}
 use Rattle.safety.proofs.Effects.{owned-below, change-same}
 use Rattle.safety.proofs.Branches.{on-test}
 use Rattle.safety.proofs.Checks.{Remap-fit, past-remap, Create-fit, past-create, past-delete}
@@ -66,39 +67,29 @@ module _ (caller rcx p : ℕ) (m : Lent) (g : guarded m p ≡ true) (named : Own
 -- ---- a pool page that is taken into use or set free
 
 -- own changes the owner alone
+own-flags : (o b : ℕ) → ltb o 8 ≡ true → own o b / 8 ≡ b / 8
+unfolding own
+own-flags o b h = omega (arith, ltb-true o 8 h)
+
 own-same : (o p : ℕ) (m : Lent) → ltb o 8 ≡ true → p < N m → Same-page p m (change (own o) p m)
 unfolding change put page-at
 own-same o p m h inside =
     let e = change-same (own o) p m inside in
-    record { bytes = refl; validity = rw e (valid-own o (table-byte m p) h); permissions = λ c. rw e (permitted-own c o (table-byte m p) h) }
+    record { bytes = refl; flags = rw e (own-flags o (table-byte m p) h) }
 
 module _ {E : Type 0} {p : ℕ} {m after later : Lent} where
   -- left alone, and then
   pub untouched-then : Untouched p m after → Fate E p after later → Fate E p m later
   untouched-then h (same k) = same (untouched-twice h k)
   untouched-then h (turned k a b) =
-      turned
-      (record {
-        bytes = k .bytes ∙ h .page;
-        validity = k .validity ∙ ap valid (h .byte);
-        permissions = λ c. k .permissions c ∙ ap (permitted c) (h .byte);
-      })
-      (ap in-pool (sym (h .byte)) ∙ a)
-      b
+      turned (record { bytes = k .bytes ∙ h .page; flags = k .flags ∙ ap (λ (b : ℕ). b / 8) (h .byte) }) (ap in-pool (sym (h .byte)) ∙ a) b
   untouched-then h (excused e) = excused e
 
   -- and then left alone
   pub then-untouched : Fate E p m after → Untouched p after later → Fate E p m later
   then-untouched (same k) h = same (untouched-twice k h)
   then-untouched (turned k a b) h =
-      turned
-      (record {
-        bytes = h .page ∙ k .bytes;
-        validity = ap valid (h .byte) ∙ k .validity;
-        permissions = λ c. ap (permitted c) (h .byte) ∙ k .permissions c;
-      })
-      a
-      (ap in-pool (h .byte) ∙ b)
+      turned (record { bytes = h .page ∙ k .bytes; flags = ap (λ (b : ℕ). b / 8) (h .byte) ∙ k .flags }) a (ap in-pool (h .byte) ∙ b)
   then-untouched (excused e) h = excused e
 
 -- from one owner of the pool to another

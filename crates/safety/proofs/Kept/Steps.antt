@@ -3,7 +3,7 @@
 use mathlib.Core.Path.{_≡_, refl, sym, _∙_, ap}
 use mathlib.Core.Logic.{_⊎_, inl, inr}
 use mathlib.Core.Bool.{true, false, not, _&&_, _||_, true≢false, and-eq-true-iff}
-use Prim.Native.Nat.{ℕ, _+_, _<_}
+use Prim.Native.Nat.{ℕ, _+_, _/_, _<_}
 use native.Mathlib.Omega.{arith}
 use lib.Dec.{eqb, ltb, leb}
 use lib.ListN.{length}
@@ -15,17 +15,17 @@ use Rattle.rules.specs.declared.Code.the-variants.{Success}
 use Rattle.rules.specs.declared.ListCall.the-variants.{Pvalidate, Deposit}
 use Rattle.rules.specs.Answers.{Answered, refuse, code-number}
 use Rattle.rules.specs.Machine.{Lent, Machine, with-lent, below, owner, valid, permitted, table-byte, page-of, offset-of}
-use Rattle.rules.specs.Machine.{owned-by, is-live, record-at, vcpu, startup, with-memory, write}
+use Rattle.rules.specs.Machine.{is-live, record-at, vcpu, startup, with-memory, write}
 use Rattle.rules.specs.Steps.{may-store, store, mark}
 use Rattle.rules.specs.Lists.{bad-list-page}
 use Rattle.rules.specs.Calls.{withdrawn-pages, withdraw}
 use Rattle.rules.specs.Call.{Posed, bad-machine, no-call, on-lent, on-rcx, handle, with-rax, clear-pending, set-flag, finish, call}
-use Rattle.rules.specs.Runs.{Step, calls, stores, marks, called, step}
-use Rattle.laws.proofs.Ranges.{by-test}
-use Rattle.safety.specs.Terms.{Back, done-well, asks-for, deleted-by, given-back-by, deletes, gives-back, Same-page, Kept-page, in-pool}
+use Rattle.rules.specs.Runs.{Step, calls, stores, marks, called, step, in-pool, asks-for}
+use Rattle.laws.proofs.Ranges.{by-test, or-false}
+use Rattle.safety.specs.Terms.{Back, done-well, deleted-by, deletes, gives-back, Same-page, Kept-page}
 use Rattle.safety.specs.Statements.{Monitor-kept, Vmsa-kept, Pool-kept}
 use Rattle.safety.proofs.Branches.{Asks, past, on-handle, called-real}
-use Rattle.safety.proofs.Checks.{Caller, caller-of, given-free, given-plain}
+use Rattle.safety.proofs.Checks.{Caller, caller-of, list-page, given-free}
 use Rattle.safety.proofs.Sound.Facts.{Sound, open-sound}
 use Rattle.safety.proofs.Sound.Sizes.{sheet-length}
 use Rattle.safety.proofs.Sound.Rows.{startup-lives}
@@ -33,7 +33,8 @@ use Rattle.safety.proofs.Keeping.{Each-keeps, handle-keeps}
 use Rattle.safety.proofs.Pool.Counts.{pooled, in-pool-owner}
 use Rattle.safety.proofs.Kept.Sealed.{sealed-page}
 use Rattle.safety.proofs.Kept.Untouched.{Untouched, untouched-here, untouched-twice, write-elsewhere, amend-leaves, guarded}
-use Rattle.safety.proofs.Kept.Untouched.{list-call-leaves, withdraw-leaves}
+use Rattle.safety.proofs.Kept.Untouched.{kept-page, list-call-leaves, withdraw-leaves}
+use Rattle.safety.proofs.Kept.Given.{Given, withdrawn-gives, finish-gives}
 use Rattle.safety.proofs.Kept.Fates.{Owned, Fate, same, turned, excused, calling-low, then-untouched, remap-leaves, create-fate, delete-fate}
 
 -- what excuses a change of page p by a step
@@ -55,20 +56,26 @@ module _ (each : Each-keeps Sound) (owned : (m : Lent) → Sound m → (i : ℕ)
     Handled-excuse code after =
         (code ≡ Success)
         × (((owner (table-byte (m .lent) p) ≡ 5) × Asks 3 g × (p ≡ page-of (g .rcx)))
-        ⊎ ((owner (table-byte (m .lent) p) ≡ 3) × Asks 5 g × (owned-by 0 after p ≡ true)))
+        ⊎ ((owner (table-byte (m .lent) p) ≡ 3) × Asks 5 g × Given caller (g .rcx) p after))
 
-    withdraw-fate : Asks 5 g
+    withdraw-fate : Caller caller (m .lent) → Asks 5 g
         → Fate (Handled-excuse (withdraw caller (g .rcx) (m .lent) .answer) (withdraw caller (g .rcx) (m .lent) .after)) p (m .lent)
         (withdraw caller (g .rcx) (m .lent) .after)
     unfolding Handled-excuse withdraw refuse
-    withdraw-fate e =
-        by-test (exists (eqb p) (withdrawn-pages (g .rcx) (m .lent)))
+    withdraw-fate c e =
+        let rcx = g .rcx in
+        let vmpl = vcpu (m .lent) caller .vmpl in
+        let odd = not (multiple 8 rcx) in
+        by-test (exists (eqb p) (withdrawn-pages rcx (m .lent)))
         (λ t.
-        by-test (not (multiple 8 (g .rcx)) || eqb (offset-of (g .rcx)) 0xFF8) (λ u. rw u (same untouched-here))
+        by-test (odd || eqb (offset-of rcx) 0xFF8) (λ u. rw u (same untouched-here))
         (λ u.
-        by-test (bad-list-page (vcpu (m .lent) caller .vmpl) (g .rcx) (m .lent)) (λ v. rw (u, v) (same untouched-here))
-        (λ v. rw (u, v) (excused (refl, inr (given-free (g .rcx) p (m .lent) t, e, given-plain (vcpu (m .lent) caller .vmpl) (g .rcx) p (m .lent) t))))))
-        (λ t. same (withdraw-leaves caller (g .rcx) p (m .lent) guard t))
+        by-test (bad-list-page vmpl rcx (m .lent)) (λ v. rw (u, v) (same untouched-here))
+        (λ v.
+        let even = not-false _ (or-false odd (eqb (offset-of rcx) 0xFF8) u .0) in
+        let given = withdrawn-gives caller rcx p (m .lent) s c even (list-page vmpl rcx (m .lent) v) t in
+        rw (u, v) (excused (refl, inr (given-free rcx p (m .lent) t, e, given))))))
+        (λ t. same (withdraw-leaves caller rcx p (m .lent) guard t))
 
     handle-fate : Caller caller (m .lent)
         → Fate
@@ -87,7 +94,7 @@ module _ (each : Each-keeps Sound) (owned : (m : Lent) → Sound m → (i : ℕ)
               delete-fate caller (g .rcx) p (m .lent) guard (λ i h. owned (m .lent) s i (rw (← sheet-length (m .lent) (s .tables)) h))
               (λ done five here. (done, inl (five, e, here)));
           deposits = λ e. same (list-call-leaves caller (g .rcx) p (m .lent) guard entries-a-call Deposit);
-          withdraws = withdraw-fate;
+          withdraws = withdraw-fate c;
           queries = λ e. same untouched-here;
           configures = λ e. same untouched-here;
           unknown-call = λ e. same untouched-here;
@@ -115,23 +122,11 @@ module _ (each : Each-keeps Sound) (owned : (m : Lent) → Sound m → (i : ℕ)
   finish-well caller before a e =
       by-test (is-live (record-at (a .after .machine .lent) caller)) (λ t. rw (t, e)) (λ t. rw t)
 
-  -- the last writes leave the table
-  finish-owner : (caller : ℕ) (before : Registers) (a : Answered Code (Posed Registers Machine)) (p o : ℕ)
-      → owned-by o (finish caller before a .after .machine .lent) p ≡ owned-by o (a .after .machine .lent) p
-  unfolding finish clear-pending set-flag with-lent write with-memory owned-by table-byte
-  finish-owner caller before a p o = by-test (is-live (record-at (a .after .machine .lent) caller)) (λ t. rw t) (λ t. rw t)
-
   -- a Delete that was done well is excused for the VMSA that it names
   deleted-told : (p : ℕ) (g : Registers) (a : Back) → Asks 3 g → p ≡ page-of (g .rcx) → done-well (a .answer) (a .after .registers) ≡ true
       → deleted-by p g a ≡ true
   unfolding deleted-by asks-for
   deleted-told p g a asks here well = simp (eq-eqb _ _ (asks .spoken), eq-eqb _ _ (asks .number), eq-eqb _ _ (sym here), well)
-
-  -- and a Withdraw for a page that is plain after it
-  given-told : (p : ℕ) (g : Registers) (a : Back) → Asks 5 g → owned-by 0 (a .after .machine .lent) p ≡ true
-      → done-well (a .answer) (a .after .registers) ≡ true → given-back-by p g a ≡ true
-  unfolding given-back-by asks-for
-  given-told p g a asks given well = simp (eq-eqb _ _ (asks .spoken), eq-eqb _ _ (asks .number), given, well)
 
   module _ (caller : ℕ) (g : Registers) (m : Machine) (s : Sound (m .lent)) (p : ℕ) (guard : guarded (m .lent) p ≡ true) where
     module _ (good : bad-machine caller (m .lent) ≡ false) (real : no-call caller g (m .lent) ≡ false) where
@@ -142,10 +137,7 @@ module _ (each : Each-keeps Sound) (owned : (m : Lent) → Sound m → (i : ℕ)
       excuse-told (done, inl (five, asks, here)) =
           inl (five, rw (called-real caller g m good real) (deleted-told p g _ asks here (finish-well caller g _ done)))
       excuse-told (done, inr (three, asks, given)) =
-          inr (
-            three,
-            rw (called-real caller g m good real) (given-told p g _ asks (finish-owner caller g _ p 0 ∙ given) (finish-well caller g _ done)),
-          )
+          inr (three, rw (called-real caller g m good real) (finish-gives caller g _ p given asks done))
 
       finish-fate : Caller caller (m .lent)
           → Fate (Handled-excuse caller g m s p guard (handle caller (record { registers = g; machine = m }) .answer)
@@ -204,10 +196,7 @@ module _ (each : Each-keeps Sound) (owned : (m : Lent) → Sound m → (i : ℕ)
   no-pool b o n e t = absurd (true≢false (sym t ∙ in-pool-owner b o e ∙ n))
 
   same-page : {p : ℕ} {m after : Lent} → Untouched p m after → Same-page p m after
-  same-page h = record { bytes = h .page; validity = ap valid (h .byte); permissions = λ c. ap (permitted c) (h .byte) }
-
-  kept-page : {p : ℕ} {m after : Lent} → Untouched p m after → Kept-page p m after
-  kept-page h = record { same = same-page h; owned = ap owner (h .byte) }
+  same-page h = record { bytes = h .page; flags = ap (λ (b : ℕ). b / 8) (h .byte) }
 
   -- a page of owner 2
   pub monitor-kept : Monitor-kept

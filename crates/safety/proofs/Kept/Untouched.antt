@@ -16,6 +16,7 @@ use Rattle.rules.specs.Machine.{Lent, with-memory, write, fill, owner, table-by
 use Rattle.rules.specs.Lists.{store-index, coverable, cleared, carry-out, carry-out-all, list-call}
 use Rattle.rules.specs.Calls.{give-back, withdrawn-pages, withdrawn, withdraw}
 use Rattle.laws.proofs.Ranges.{or-false}
+use Rattle.safety.specs.Terms.{Kept-page}
 use Rattle.safety.proofs.Small.{not-among}
 use Rattle.safety.proofs.Effects.{change-other, page-not-written, carry-out-other}
 use Rattle.safety.proofs.Entries.{Keeps, within-keeps}
@@ -25,6 +26,10 @@ use Rattle.safety.proofs.Checks.{List-page, past-list, past-withdraw}
 pub record Untouched (p : ℕ) (m after : Lent) : Type 0 where
   pub page : page-at after p ≡ page-at m p
   pub byte : table-byte after p ≡ table-byte m p
+
+-- so it is kept
+pub kept-page : {p : ℕ} {m after : Lent} → Untouched p m after → Kept-page p m after
+kept-page h = record { bytes = h .page; byte = h .byte }
 
 -- left alone twice
 pub untouched-twice : {p : ℕ} {m after later : Lent} → Untouched p m after → Untouched p after later → Untouched p m later

@@ -6,11 +6,11 @@ use mathlib.Core.List.{List, [], _∷_}
 use Prim.Native.Nat.{ℕ, _+_, _-_, _*_, _/_, _<_, _≤_, min}
 use native.Mathlib.Omega.{arith}
 use lib.Dec.{eqb}
-use lib.ListN.{length, length-take, length-set}
+use lib.ListN.{length, length-take}
 use lib.Seq.{sets, getD-set-same}
 use borrow.Author.Tests.{eqb-true, eqb-false, ne-eqb}
 use Rattle.rules.specs.Words.{page-size, records, between, little, number, every, exists, count, places, each}
-use Rattle.rules.specs.Machine.{Lent, N, offset-of, page-at, with-memory, written, write, owner, valid, permitted, grant, own, table-byte, put, change}
+use Rattle.rules.specs.Machine.{Lent, N, offset-of, page-at, with-memory, write, owner, valid, permitted, grant, own, table-byte, put, change}
 use Rattle.rules.specs.Machine.{vcpu, startup}
 use Rattle.rules.specs.Sound.{pages-sized}
 use Rattle.rules.specs.Lists.{in-list}
@@ -21,7 +21,7 @@ use Rattle.laws.proofs.Counts.{table-byte-each, table-byte-each-other, count-ea
 use Rattle.laws.proofs.Numbers.{number-written, number-elsewhere}
 use Rattle.laws.proofs.TableByte.{byte·simp}
 use Rattle.safety.specs.Terms.{free}
-use Rattle.safety.proofs.Effects.{same-startup, withdrawn-sheet, page-written, owned-below}
+use Rattle.safety.proofs.Effects.{same-startup, withdrawn-sheet, memory-written, page-written, owned-below}
 use Rattle.safety.proofs.Checks.{withdrawn-rising, withdrawn-free, given-free}
 use Rattle.safety.proofs.Sound.Facts.{Sound}
 use Rattle.safety.proofs.Sound.Sizes.{page-whole}
@@ -80,11 +80,6 @@ write-sheet p o bytes m = refl
 pub write-byte : (p o : ℕ) (bytes : List ℕ) (m : Lent) (q : ℕ) → table-byte (write p o bytes m) q ≡ table-byte m q
 unfolding write with-memory table-byte
 write-byte p o bytes m q = refl
-
--- as many pages as before
-memory-written : (p o : ℕ) (bytes : List ℕ) (m : Lent) → length (write p o bytes m .memory) ≡ length (m .memory)
-unfolding write with-memory written
-memory-written p o bytes m = length-set (m .memory) p _
 
 -- a count in two bytes, with a list behind and two bytes before it
 count-read : (page gs : List ℕ) (n x y : ℕ) → 10 ≤ length page → n < 65536

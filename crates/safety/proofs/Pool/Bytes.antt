@@ -9,10 +9,13 @@ use lib.Dec.{ltb, eqb}
 use lib.ListN.{length}
 use borrow.Author.Tests.{ltb-true, ltb-false, eqb-true, eqb-false}
 use Rattle.rules.specs.Words.{page-size, records, multiple, little, number}
-use Rattle.rules.specs.Machine.{Lent, page-of, offset-of, page-at, write, with-memory, is-live, record-at, vcpu, startup}
-use Rattle.rules.specs.Lists.{in-list}
+use Rattle.rules.specs.declared.Registers.{Registers}
+use Rattle.rules.specs.declared.Code.{Code}
+use Rattle.rules.specs.Answers.{Answered}
+use Rattle.rules.specs.Machine.{Lent, Machine, with-lent, page-of, offset-of, page-at, write, with-memory, is-live, record-at, vcpu, startup}
+use Rattle.rules.specs.Lists.{in-list, list-next}
 use Rattle.rules.specs.Calls.{any-free}
-use Rattle.rules.specs.Call.{clear-pending}
+use Rattle.rules.specs.Call.{Posed, clear-pending, set-flag, finish}
 use Rattle.laws.proofs.Ranges.{by-test}
 use Rattle.laws.proofs.Numbers.{number-elsewhere, number-written}
 use Rattle.safety.specs.Terms.{last-writes}
@@ -76,7 +79,25 @@ module _ (caller rcx w at : ℕ) (m : Lent) (mine : page-of rcx ≡ vcpu m calle
       in-list-write (startup now .calling) 1 (cond (any-free now) 1 0 ∷ []) now w at rcx
       (λ e. inr (omega (arith, first (e ∙ startup-cleared)))) ∙ in-list-cleared
 
--- and the table
+-- so does the end of a call, whatever its outcome
+pub finish-list : (caller rcx w at : ℕ) (g : Registers) (a : Answered Code (Posed Registers Machine))
+    → (page-of rcx ≡ vcpu (a .after .machine .lent) caller .calling → 2 ≤ offset-of rcx + at)
+    → (page-of rcx ≡ startup (a .after .machine .lent) .calling → 2 ≤ offset-of rcx + at)
+    → in-list w at rcx (finish caller g a .after .machine .lent) ≡ in-list w at rcx (a .after .machine .lent)
+unfolding finish with-lent last-writes clear-pending set-flag
+finish-list caller rcx w at g a mine first =
+    let m = a .after .machine .lent in
+    by-test (is-live (record-at m caller))
+    (λ t. rw t (in-list-last caller rcx w at m mine first))
+    (λ t. rw t (in-list-write (startup m .calling) 1 (cond (any-free m) 1 0 ∷ []) m w at rcx (λ e. inr (omega (arith, first e)))))
+
+-- the last writes are in bytes 0 and 1 of a page, and the index behind them
+pub finish-index : (caller rcx : ℕ) (g : Registers) (a : Answered Code (Posed Registers Machine))
+    → list-next rcx (finish caller g a .after .machine .lent) ≡ list-next rcx (a .after .machine .lent)
+unfolding list-next
+finish-index caller rcx g a = finish-list caller rcx 2 2 g a (λ e. omega arith) (λ e. omega arith)
+
+-- the last writes leave the table
 pub table-last : (caller : ℕ) (m : Lent) → last-writes caller m .table ≡ m .table
 unfolding last-writes write with-memory
 table-last caller m = refl

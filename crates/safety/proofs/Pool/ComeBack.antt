@@ -15,15 +15,15 @@ use Rattle.rules.specs.Machine.{Lent, Machine, with-lent, with-memory, N, write
 use Rattle.rules.specs.Lists.{in-list}
 use Rattle.rules.specs.Calls.{is-free}
 use Rattle.rules.specs.Call.{with-rax}
-use Rattle.rules.specs.Runs.{Step, calls, stores, called, step, run-steps, handled-as, given-by, given-back, over-run}
+use Rattle.rules.specs.Runs.{Step, calls, stores, called, step, run-steps, asks-for, handled-as, given-by, given-back, over-run}
 use Rattle.laws.proofs.Ranges.{→exists}
 use Rattle.laws.proofs.Counts.{exists-count}
-use Rattle.safety.specs.Terms.{Kept-page, free, rounds, asking, withdrawals, succeeded-by, succeeds, all-succeed}
+use Rattle.safety.specs.Terms.{free, rounds, asking, withdrawals, succeeded-by, succeeds, all-succeed}
 use Rattle.safety.specs.Statements.{All-come-back}
 use Rattle.safety.proofs.Effects.{same-startup}
 use Rattle.safety.proofs.Sound.Facts.{Sound, open-sound}
 use Rattle.safety.proofs.Sound.Rows.{startup-lives}
-use Rattle.safety.proofs.Kept.Untouched.{Untouched}
+use Rattle.safety.proofs.Kept.Untouched.{kept-page}
 use Rattle.safety.proofs.Kept.Fates.{Owned}
 use Rattle.safety.proofs.Pool.BackCall.{asks-withdraw, ended, stored, called-done}
 use Rattle.safety.proofs.Pool.BackRound.{Turning, Round, round-twice, round-here, ended-round, stored-round, count-told, store-waits}
@@ -63,13 +63,6 @@ came-back c b n (inr h) = (h .owned, h .validity, h .permission)
 waits : (c b : ℕ) → owner b ≡ 3 → Turning c b
 unfolding Turning
 waits c b e = inl e
-
-kept-page : {p : ℕ} {m after : Lent} → Untouched p m after → Kept-page p m after
-kept-page h =
-    record {
-      same = record { bytes = h .page; validity = ap valid (h .byte); permissions = λ c. ap (permitted c) (h .byte) };
-      owned = ap owner (h .byte);
-    }
 
 -- what n rounds have done, with these steps
 pub record Rounds (n : ℕ) (ss : List Step) (m : Lent) : Type 0 where
@@ -122,7 +115,7 @@ module _ (owned : (m : Lent) → Sound m → (i : ℕ) → i < records → is-li
       call-succeeds = rw call-told
 
       call-gives : given-back asks (record { lent = waiting m }) ≡ in-list 2 0 (page-size * startup m .calling + 8) (ended (waiting m))
-      unfolding given-back given-by handled-as outcome-number with-rax asking
+      unfolding given-back given-by handled-as asks-for outcome-number with-rax asking
       call-gives = rw (call-told, asks-withdraw m g .0, asks-withdraw m g .1)
 
       -- the pages that are given back are free no more

@@ -10,10 +10,9 @@ use lib.Seq.{set-out}
 use borrow.Author.Tests.{ltb-true, ltb-false}
 use Rattle.rules.specs.Words.{count}
 use Rattle.rules.specs.Machine.{Lent, N, owner, pool-free, pool-in-use, table-byte, put, change, write, with-memory, amend}
-use Rattle.rules.specs.Runs.{pool}
+use Rattle.rules.specs.Runs.{in-pool, pool}
 use Rattle.laws.proofs.Ranges.{by-test}
 use Rattle.laws.proofs.Counts.{one, count-set}
-use Rattle.safety.specs.Terms.{in-pool}
 
 -- an owner of the pool's pages
 unfoldable pub pooled : ℕ → Bool
@@ -26,7 +25,7 @@ in-pool-owner b o e = rw e
 
 -- the pool is counted in the table
 pub pool-counts : (m : Lent) → pool m ≡ count in-pool (m .table)
-unfolding pool in-pool
+unfolding pool
 pool-counts m = refl
 
 -- machines of one table have one pool

@@ -1,6 +1,6 @@
 -- Pvalidate leaves the pool's number of pages, and Deposit adds the pages of the entries that its index passes.
 use mathlib.Core.Path.{_≡_, refl, sym, _∙_, ap, ap₂}
-use mathlib.Core.Bool.{true, false}
+use mathlib.Core.Bool.{true, false, cond}
 use mathlib.Core.List.{List, [], _∷_}
 use Prim.Native.Nat.{ℕ, zero, suc, _+_, _-_, _<_, _≤_}
 use native.Mathlib.Omega.{arith}
@@ -16,11 +16,10 @@ use Rattle.rules.specs.declared.Wish.the-variants.{Pool}
 use Rattle.rules.specs.Machine.{Lent, N, page-of, offset-of, page-at, write, written, with-memory, owner, plain, table-byte, put, change, revoke, vcpu}
 use Rattle.rules.specs.Lists.{in-list, list-entry, store-index, entry-pages, read-entry, wished, cleared, carry-out, carry-out-all}
 use Rattle.rules.specs.Lists.{after-entry, run, list-call}
-use Rattle.rules.specs.Runs.{pool, pages-listed}
+use Rattle.rules.specs.Runs.{in-pool, pool, pages-listed}
 use Rattle.laws.proofs.Ranges.{by-test, each-same}
 use Rattle.laws.proofs.Counts.{count-range-up}
 use Rattle.laws.proofs.TableByte.{byte·simp, owner-own}
-use Rattle.safety.specs.Terms.{in-pool}
 use Rattle.safety.proofs.Effects.{carry-out-table, entry-sheet}
 use Rattle.safety.proofs.Entries.{wish-of, fits-plain, Read, entry-read, within-keeps}
 use Rattle.safety.proofs.Checks.{past-list}
@@ -79,13 +78,18 @@ entry-same k rcx m m′ e = rw e
 pages-same : (rcx : ℕ) (m m′ : Lent) → m′ .memory ≡ m .memory → (ks : List ℕ) → pages-listed rcx m′ ks ≡ pages-listed rcx m ks
 unfolding pages-listed
 pages-same rcx m m′ e [] = refl
-pages-same rcx m m′ e (k ∷ ks) = ap₂ (λ (a b : ℕ). entry-pages a + b) (entry-same k rcx m m′ e) (pages-same rcx m m′ e ks)
+pages-same rcx m m′ e (k ∷ ks) = ap₂ (λ (a b : ℕ). cond (eqb (bits 1 0 a) 0) 1 512 + b) (entry-same k rcx m m′ e) (pages-same rcx m m′ e ks)
+
+-- an entry's pages, in numbers
+entry-counts : (e : ℕ) → cond (eqb (bits 1 0 e) 0) 1 512 ≡ entry-pages e
+unfolding entry-pages large
+entry-counts e = refl
 
 -- the first entry, and the rest
 pages-first : (rcx k to : ℕ) (m : Lent) → k < to
     → pages-listed rcx m (range k (to - k)) ≡ entry-pages (list-entry k rcx m) + pages-listed rcx m (range (suc k) (to - suc k))
 unfolding pages-listed range
-pages-first rcx k to m h = let longer : to - k ≡ suc (to - suc k) = omega arith in rw longer
+pages-first rcx k to m h = let longer : to - k ≡ suc (to - suc k) = omega arith in rw (longer, entry-counts)
 
 -- no entries
 pub pages-none : (rcx k : ℕ) (m : Lent) → pages-listed rcx m (range k (k - k)) ≡ 0

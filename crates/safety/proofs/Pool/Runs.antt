@@ -11,9 +11,8 @@ use Rattle.rules.specs.declared.Launched.the-variants.{Made}
 use Rattle.rules.specs.Machine.{Lent, Machine, N, owner}
 use Rattle.rules.specs.Sound.{table-sized, pages-sized, sound}
 use Rattle.rules.specs.Launch.{in-monitor, launch-byte, launch-table, made, launch}
-use Rattle.rules.specs.Runs.{Step, step, run-steps, pool, taken-in, given-back, over-run}
+use Rattle.rules.specs.Runs.{Step, step, run-steps, in-pool, pool, taken-in, given-back, over-run}
 use Rattle.laws.proofs.Ranges.{by-test}
-use Rattle.safety.specs.Terms.{in-pool}
 use Rattle.safety.proofs.Checks.{launch-made}
 use Rattle.safety.proofs.Pool.Counts.{pool-counts, pool-write}
 use Rattle.safety.proofs.Pool.Steps.{step-counted}

@@ -21,7 +21,8 @@ use Rattle.rules.specs.Sound.{sound}
 use Rattle.rules.specs.Lists.{bad-list-page, in-list, list-count, list-next, store-index, bad-count, bad-next, run-within, list-call}
 use Rattle.rules.specs.Calls.{withdrawn-pages, withdrawn, withdraw}
 use Rattle.rules.specs.Call.{Posed, with-rax, bad-machine, no-call, protocol, call-number, on-lent, on-rcx, handle, clear-pending, set-flag, finish, call}
-use Rattle.rules.specs.Runs.{Step, calls, stores, marks, called, step, pool, handled-as, taken-by, given-by, head-accepted, pages-listed, taken-in, given-back}
+use Rattle.rules.specs.Runs.{Step, calls, stores, marks, called, step, pool, asks-for, handled-as, taken-by, given-by}
+use Rattle.rules.specs.Runs.{head-accepted, pages-listed, taken-in, given-back}
 use Rattle.laws.proofs.Ranges.{by-test, or-false}
 use Rattle.safety.specs.Terms.{last-writes}
 use Rattle.safety.proofs.Effects.{withdrawn-sheet}
@@ -32,7 +33,7 @@ use Rattle.safety.proofs.Sound.Sizes.{page-there, page-whole}
 use Rattle.safety.proofs.Pool.Counts.{pool-table, pool-write, pool-amend}
 use Rattle.safety.proofs.Pool.Pages.{remap-pool, create-pool, delete-pool}
 use Rattle.safety.proofs.Pool.Lists.{pages-none, pvalidate-pool, Deposited, run-deposits}
-use Rattle.safety.proofs.Pool.Bytes.{in-list-written, offset-eight, offset-below, list-behind, in-list-last, table-last}
+use Rattle.safety.proofs.Pool.Bytes.{in-list-written, offset-eight, offset-below, list-behind, in-list-last, finish-index, table-last}
 use Rattle.safety.proofs.Pool.Withdraw.{withdrawn-pool, withdrawn-count}
 
 -- ---- the end of a call
@@ -73,11 +74,11 @@ module _ (caller : ℕ) (g : Registers) (m : Machine) where
   given-none e = rw e
 
   other-call : (n : ℕ) → eqb (call-number g) n ≡ false → handled-as n g (called caller g m .answer) ≡ false
-  unfolding handled-as
-  other-call n e = rw e (and-false (eqb (outcome-number (called caller g m .answer)) 0 && eqb (protocol g) 0))
+  unfolding handled-as asks-for
+  other-call n e = simp (e, and-false)
 
   other-protocol : (n : ℕ) → eqb (protocol g) 0 ≡ false → handled-as n g (called caller g m .answer) ≡ false
-  unfolding handled-as
+  unfolding handled-as asks-for
   other-protocol n e = rw (e, and-false (eqb (outcome-number (called caller g m .answer)) 0))
 
   not-handled : (n : ℕ) → eqb (outcome-number (called caller g m .answer)) 0 ≡ false → handled-as n g (called caller g m .answer) ≡ false
@@ -113,15 +114,11 @@ module _ (caller : ℕ) (g : Registers) (m : Machine) where
   unfolding given-back given-by
   given-code e = rw (e, and-false (handled-as 5 g (called caller g m .answer)))
 
-  taken-head : head-accepted (vcpu (m .lent) caller .vmpl) (g .rcx) (m .lent) ≡ false → taken-in (calls caller g) m ≡ 0
-  unfolding taken-in taken-by
-  taken-head e = rw (e, and-false (handled-as 4 g (called caller g m .answer)))
-
   -- the index as it was takes nothing in
   taken-still : list-next (g .rcx) (called caller g m .after .machine .lent) ≡ list-next (g .rcx) (m .lent) → taken-in (calls caller g) m ≡ 0
   unfolding taken-in taken-by
   taken-still e =
-      by-test (handled-as 4 g (called caller g m .answer) && head-accepted (vcpu (m .lent) caller .vmpl) (g .rcx) (m .lent))
+      by-test (handled-as 4 g (called caller g m .answer))
       (λ t. rw (t, e) (pages-none (g .rcx) (list-next (g .rcx) (m .lent)) (m .lent)))
       (λ t. rw t)
 
@@ -201,7 +198,14 @@ module _ (caller : ℕ) (g : Registers) (m : Machine) (s : Sound (m .lent)) (fin
   shapes : Caller caller (m .lent)
   shapes = caller-of caller (m .lent) fine
 
-  -- the pool is the one that the call itself leaves
+  -- the index is the one that the call itself leaves, and where that stands still nothing is taken in
+  taken-nothing : list-next (g .rcx) (handle caller (posed caller g m) .after .machine .lent) ≡ list-next (g .rcx) (m .lent)
+      → taken-in (calls caller g) m ≡ 0
+  taken-nothing e =
+      taken-still caller g m
+      (ap (λ a. list-next (g .rcx) (a .after .machine .lent)) real ∙ finish-index caller (g .rcx) g (handle caller (posed caller g m)) ∙ e)
+
+  -- so is the pool
   after-pool : pool (called caller g m .after .machine .lent) ≡ pool (handle caller (posed caller g m) .after .machine .lent)
   after-pool = ap (λ a. pool (a .after .machine .lent)) real ∙ finish-pool caller g (handle caller (posed caller g m))
 
@@ -254,14 +258,10 @@ module _ (caller : ℕ) (g : Registers) (m : Machine) (s : Sound (m .lent)) (fin
 
   -- a pending byte above 1
   pending-counted : handle caller (posed caller g m) ≡ record { answer = BadPending; after = posed caller g m } → Counted (calls caller g) m
-  unfolding on-lent with-lent list-next
+  unfolding on-lent with-lent
   pending-counted is =
       let a : Answered Code Lent = record { answer = BadPending; after = m .lent } in
-      let vmpl = vcpu (m .lent) caller .vmpl in
-      quiet caller g m (ended-pool a is refl)
-      (by-test (head-accepted vmpl (g .rcx) (m .lent))
-      (λ t. let h = accepted vmpl (g .rcx) (m .lent) t in taken-still caller g m (list-kept a is refl 2 2 (h .aligned) (h .page)))
-      (taken-head caller g m))
+      quiet caller g m (ended-pool a is refl) (taken-nothing (ap (λ a. list-next (g .rcx) (a .after .machine .lent)) is))
       (given-code caller g m (rw (ended-rax a is refl) pending-code))
 
   -- Deposit
@@ -299,8 +299,8 @@ module _ (caller : ℕ) (g : Registers) (m : Machine) (s : Sound (m .lent)) (fin
           (index-fits entries-a-call rcx (deposits .to) (m .lent) (h .counts) (h .nexts) (deposits .most))
 
       deposit-taken : taken-in (calls caller g) m ≡ pages-listed (g .rcx) (m .lent) (range from (deposits .to - from))
-      unfolding taken-in taken-by handled-as
-      deposit-taken = rw (ended-handled deposit is (deposits .sheet), protocol-0, number-4, acc, index-after)
+      unfolding taken-in taken-by handled-as asks-for
+      deposit-taken = rw (ended-handled deposit is (deposits .sheet), protocol-0, number-4, index-after)
 
       deposit-accepted : Counted (calls caller g) m
       unfolding Counted step
@@ -309,11 +309,17 @@ module _ (caller : ℕ) (g : Registers) (m : Machine) (s : Sound (m .lent)) (fin
     deposit-refused : head-accepted (vcpu (m .lent) caller .vmpl) (g .rcx) (m .lent) ≡ false → deposit .after ≡ m .lent
     deposit-refused t = head-runs entries-a-call Deposit caller (g .rcx) (m .lent) ∙ rw t
 
+    -- a head that is refused leaves the index, whatever RCX is
+    index-still : deposit .after ≡ m .lent → list-next (g .rcx) (handle caller (posed caller g m) .after .machine .lent) ≡ list-next (g .rcx) (m .lent)
+    unfolding on-lent with-lent
+    index-still e = ap (λ a. list-next (g .rcx) (a .after .machine .lent)) is ∙ ap (list-next (g .rcx)) e
+
     deposit-counted : Counted (calls caller g) m
     deposit-counted =
         by-test (head-accepted (vcpu (m .lent) caller .vmpl) (g .rcx) (m .lent)) deposit-accepted
-        (λ t. quiet caller g m
-        (ended-pool deposit is (ap (λ (l : Lent). l .sheet) (deposit-refused t)) ∙ ap pool (deposit-refused t)) (taken-head caller g m t) nothing-given)
+        (λ t.
+        let still = deposit-refused t in
+        quiet caller g m (ended-pool deposit is (ap (λ (l : Lent). l .sheet) still) ∙ ap pool still) (taken-nothing (index-still still)) nothing-given)
 
   -- Withdraw
   module _ (protocol-0 : protocol g ≡ 0) (number-5 : call-number g ≡ 5) where
@@ -345,7 +351,7 @@ module _ (caller : ℕ) (g : Registers) (m : Machine) (s : Sound (m .lent)) (fin
           list-kept withdrawal is withdrawal-sheet 2 0 mult page ∙ withdrawn-count (vcpu (m .lent) caller .vmpl) rcx (m .lent) there room
 
       withdrawal-given : given-back (calls caller g) m ≡ length (withdrawn-pages (g .rcx) (m .lent))
-      unfolding given-back given-by handled-as
+      unfolding given-back given-by handled-as asks-for
       withdrawal-given =
           rw (ended-handled withdrawal is withdrawal-sheet, protocol-0, number-5, ended-rax withdrawal is withdrawal-sheet, success-code) count-after
 
