@@ -1,5 +1,5 @@
 -- Laws for Withdraw: gPAs in a row, one place more, and writes in one page at places apart, which come in either order.
-use mathlib.Core.Path.{_≡_, refl, sym, _∙_, ap}
+use mathlib.Core.Path.{_≡_, refl, _∙_, ap}
 use mathlib.Core.Bool.{Bool}
 use mathlib.Core.List.{List, [], _∷_, _++_, append-assoc}
 use Prim.Native.Nat.{ℕ, suc, _+_, _*_, _<_, _≤_}
@@ -7,7 +7,7 @@ use native.Mathlib.Omega.{arith}
 use native.Mathlib.Nat.{zero-add}
 use lib.ListN.{length, getD, set, take, length-append}
 use lib.Seq.{sets, getD-set-same, set-getD, set-set, set-comm, length-take-le, take-suc}
-use Rattle.rules.specs.Words.{page-size, little, places}
+use Rattle.rules.specs.Words.{places}
 use Rattle.rules.specs.Machine.{written}
 use Rattle.rules.specs.Calls.{gpas}
 use Rattle.laws.proofs.Numbers.{length-little}
@@ -18,12 +18,12 @@ use Rattle.laws.proofs.Ranges.{places-append}
 pub gpas-append : (ps qs : List ℕ) → gpas (ps ++ qs) ≡ gpas ps ++ gpas qs
 unfolding gpas
 gpas-append [] qs = refl
-gpas-append (p ∷ ps) qs = rw (gpas-append ps qs) (sym (append-assoc (little 8 (page-size * p)) (gpas ps) (gpas qs)))
+gpas-append (p ∷ ps) qs = rw (gpas-append ps qs, append-assoc)
 
 pub length-gpas : (ps : List ℕ) → length (gpas ps) ≡ 8 * length ps
 unfolding gpas
 length-gpas [] = refl
-length-gpas (p ∷ ps) = rw (length-append (little 8 (page-size * p)) (gpas ps), length-little 8 (page-size * p), length-gpas ps) (omega arith)
+length-gpas (p ∷ ps) = rw (length-append _ (gpas ps), length-little 8 _, length-gpas ps) (omega arith)
 
 -- ---- places
 

@@ -7,11 +7,11 @@ use Prim.Native.Nat.{ℕ, _+_}
 use lib.Dec.{eqb}
 use lib.ListN.{length}
 use Rattle.rules.specs.Words.{records, registers-size}
-use Rattle.rules.specs.Answers.{refuse, outcome-number}
+use Rattle.rules.specs.Answers.{refuse}
 use Rattle.rules.specs.Machine.{Machine}
 use Rattle.rules.specs.Sound.{sound}
 use Rattle.rules.specs.Flat.{Buffers, parted, joined, well-sized, sound-bytes, call-bytes, registers-of, door-bytes}
-use Rattle.rules.specs.Runs.{Step, calls, stores, marks, called, step, run-steps, handled-as, taken-by, taken-in, given-back, over-run}
+use Rattle.rules.specs.Runs.{Step, calls, stores, marks, called, step, run-steps, taken-in, given-back, over-run}
 use Rattle.laws.proofs.Ranges.{by-test}
 use Rattle.laws.proofs.FlatLaunch.{joined-parted}
 use Rattle.safety.specs.Terms.{deletes, gives-back, succeeds, all-succeed, Act, call-act, store-act, mark-act, act, acts}
@@ -31,15 +31,6 @@ abbrev pub machine : Buffers → Machine
 machine b = record { lent = parted b }
 
 -- ---- one act
-
--- register bytes of a wrong length take in nothing, whoever is said to call
-taken-as : (caller : ℕ) (registers : List ℕ) (b : Buffers) →
-    let who = asks-as caller registers in
-    let g = registers-of registers in
-    taken-by caller g (parted b) (called who g (machine b)) ≡ taken-by who g (parted b) (called who g (machine b))
-unfolding asks-as taken-by handled-as outcome-number
-taken-as caller registers b =
-    by-test (eqb (length registers) registers-size) (λ t. rw t) (λ t. rw (t, called-by-none (registers-of registers) (machine b)))
 
 module _ (b : Buffers) (w : well-sized b ≡ true) where
   call-act-step : (caller : ℕ) (registers : List ℕ)
@@ -83,7 +74,7 @@ module _ (b : Buffers) (w : well-sized b ≡ true) where
   -- takes in as many
   taken-meant : (a : Act) → act-taken-in a b ≡ taken-in (meant a) (machine b)
   unfolding act-taken-in taken-in meant
-  taken-meant (call-act caller registers) = taken-alike (registers-of registers) _ _ (door-alike caller registers b w) caller (parted b) ∙ taken-as caller registers b
+  taken-meant (call-act caller registers) = taken-alike (registers-of registers) _ _ (door-alike caller registers b w) (parted b)
   taken-meant (store-act c p offset bytes) = refl
   taken-meant (mark-act i value) = refl
 

@@ -114,6 +114,10 @@ handled-by-rax n r NoCall g h e = refl
 handled-by-rax n r Gone g h e = refl
 handled-by-rax n r BadMachine g h e = refl
 
+pub succeeded-alike : (a b : Back) → Alike a b → succeeded-by a ≡ succeeded-by b
+unfolding succeeded-by
+succeeded-alike a b like = rw (like .outcome) (zero-by-rax (b .answer) (a .after .registers) (b .after .registers) (like .code))
+
 module _ (g : Registers) (a b : Back) (like : Alike a b) where
   done-alike : done-well (a .answer) (a .after .registers) ≡ done-well (b .answer) (b .after .registers)
   done-alike = rw (like .outcome) (well-by-rax (b .answer) _ _ (like .code))
@@ -124,19 +128,15 @@ module _ (g : Registers) (a b : Back) (like : Alike a b) where
 
   pub given-back-alike : (p : ℕ) → given-back-by p g a ≡ given-back-by p g b
   unfolding given-back-by
-  given-back-alike p = rw (done-alike, like .lent)
+  given-back-alike p = rw (succeeded-alike a b like, like .lent)
 
   pub given-alike : given-by g a ≡ given-by g b
   unfolding given-by
   given-alike = rw (like .outcome, like .lent, handled-by-rax 5 g (b .answer) (a .after .registers) (b .after .registers) (like .code))
 
-  pub taken-alike : (caller : ℕ) (m : Lent) → taken-by caller g m a ≡ taken-by caller g m b
+  pub taken-alike : (m : Lent) → taken-by g m a ≡ taken-by g m b
   unfolding taken-by
-  taken-alike caller m = rw (like .outcome, like .lent)
-
-pub succeeded-alike : (a b : Back) → Alike a b → succeeded-by a ≡ succeeded-by b
-unfolding succeeded-by
-succeeded-alike a b like = rw (like .outcome) (zero-by-rax (b .answer) (a .after .registers) (b .after .registers) (like .code))
+  taken-alike m = rw (like .outcome, like .lent)
 
 -- ---- the door
 
