@@ -3,6 +3,7 @@ pub mod Unreal
 pub mod Gone
 pub mod Refusal
 pub mod SecondValidation
+pub mod PassedRuns
 pub mod ValidationRuns
 pub mod WholeCalls
 pub mod Modest

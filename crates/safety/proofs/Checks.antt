@@ -21,7 +21,7 @@ use Rattle.rules.specs.Machine.{Lent, Machine, N, below, page-of, offset-of, pa
 use Rattle.rules.specs.Machine.{with-memory, write, grant, own, change, fields, is-live, needs-page, record-at, vcpu, startup, vmsa-vmpl, vmsa-features, efer}
 use Rattle.rules.specs.Launch.{out-of-range, areas-meet, unfit-vmsa, made, launch}
 use Rattle.rules.specs.Sound.{bad-record}
-use Rattle.rules.specs.Lists.{bad-list-page, run-within, list-call}
+use Rattle.rules.specs.Lists.{bad-list-page, bad-count, bad-next, run-within, list-call}
 use Rattle.rules.specs.Calls.{remapped, remap, Asked, asked, unfit-pages, unfit-vcpu, free-record, is-free, free-page, any-free, created, create}
 use Rattle.rules.specs.Calls.{deleted, named-by, delete, withdrawn-pages, give-back, withdrawn, withdraw}
 use Rattle.rules.specs.Call.{bad-sheet, bad-machine}
@@ -100,15 +100,21 @@ list-page vmpl rcx m e =
       behind = λ h. eqb-false _ _ (and-false→ (eqb o 1) _ (outer .1) (rw h));
     }
 
--- Pvalidate and Deposit
-pub past-list : (budget : ℕ) (call : ListCall) (caller rcx : ℕ) (m : Lent) (P : Lent → Type 0) → P m
-    → (List-page rcx m → P (run-within budget call caller rcx m .after)) → P (list-call budget call caller rcx m .after)
+-- Pvalidate and Deposit, with all that their head's checks told
+pub past-head : (budget : ℕ) (call : ListCall) (caller rcx : ℕ) (m : Lent) (P : Lent → Type 0) → P m
+    → (List-page rcx m → bad-count rcx m ≡ false → bad-next rcx m ≡ false → P (run-within budget call caller rcx m .after))
+    → P (list-call budget call caller rcx m .after)
 unfolding list-call
-past-list budget call caller rcx m P h k =
+past-head budget call caller rcx m P h k =
     past P m _ _ _ h (λ t.
     past P m _ _ _ h (λ page.
-    past P m _ _ _ h (λ t.
-    past P m _ _ _ h (λ t. k (list-page (vcpu m caller .vmpl) rcx m page)))))
+    past P m _ _ _ h (λ counts.
+    past P m _ _ _ h (λ nexts. k (list-page (vcpu m caller .vmpl) rcx m page) counts nexts))))
+
+-- and where only the list's page matters
+pub past-list : (budget : ℕ) (call : ListCall) (caller rcx : ℕ) (m : Lent) (P : Lent → Type 0) → P m
+    → (List-page rcx m → P (run-within budget call caller rcx m .after)) → P (list-call budget call caller rcx m .after)
+past-list budget call caller rcx m P h k = past-head budget call caller rcx m P h (λ page counts nexts. k page)
 
 -- Withdraw
 pub past-withdraw : (caller rcx : ℕ) (m : Lent) (P : Lent → Type 0) → P m → (List-page rcx m → P (withdrawn (vcpu m caller .vmpl) rcx m))

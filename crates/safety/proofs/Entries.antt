@@ -154,7 +154,8 @@ pages-elsewhere wish vmpl caller rcx (p ∷ ps) m now h =
     ∙ page-elsewhere wish vmpl p (page-of rcx) now (not-true _ other)
 
 module _ (call : ListCall) (caller rcx e first n : ℕ) (wish : Wish) (m : Lent) (h : read-entry call caller rcx e m ≡ Reads first n wish) where
-  list-kept : page-at (carry-out-all wish (vcpu m caller .vmpl) first n m) (page-of rcx) ≡ page-at m (page-of rcx)
+  -- the page is as it was
+  pub list-kept : page-at (carry-out-all wish (vcpu m caller .vmpl) first n m) (page-of rcx) ≡ page-at m (page-of rcx)
   unfolding carry-out-all
   list-kept = pages-elsewhere wish (vcpu m caller .vmpl) caller rcx (range first n) m m (entry-read call caller rcx e first n wish m h .passed)
 

@@ -10,7 +10,8 @@ use Rattle.rules.specs.Runs.{run-steps}
 use Rattle.safety.specs.Statements.{Demand-3, Sound-means, Launched-sound, Stays-sound, Sealed, Monitor-kept, Vmsa-kept, Pool-kept, Step-counted}
 use Rattle.safety.specs.Statements.{Run-counted}
 use Rattle.safety.specs.Statements.{Counted-from-launch, At-most, At-most-twelve, All-come-back, Unreal-changes-nothing, Unreal-changes-no-byte}
-use Rattle.safety.specs.Statements.{Gone-law, Gone-leaves, Refusal-law, Refusal-leaves, Validation-law, Validated-once-a-call, Validated-once, Second-validation-refused}
+use Rattle.safety.specs.Statements.{Gone-law, Gone-leaves, Refusal-law, Refusal-leaves, Validation-law, Validated-once-a-call, Revalidation-law}
+use Rattle.safety.specs.Statements.{Revalidated-by-leave, Passed-law, Passed-and-no-more, Validated-once, Second-validation-refused}
 use Rattle.safety.specs.Statements.{Validated-pages-zero, Carried-out, Confinement-law, Calls-confined, Sizes-kept, Calls-on-bytes, Launched-on-bytes, Runs-on-bytes}
 use Rattle.safety.proofs.Branches.{never}
 use Rattle.safety.proofs.Keeping.{Each-keeps, run-keeps}
@@ -139,6 +140,14 @@ refusal-leaves = of-every-call Refusal-law (λ caller g m e. never BadMachine Ha
 pub validated-once-a-call : Validated-once-a-call
 unfolding Validated-once-a-call
 validated-once-a-call = of-every-call Validation-law Whole.validation-still Whole.validation-of-calls
+
+pub revalidated-by-leave : Revalidated-by-leave
+unfolding Revalidated-by-leave
+revalidated-by-leave = of-every-call Revalidation-law Whole.revalidation-still Whole.revalidation-of-calls
+
+pub passed-and-no-more : Passed-and-no-more
+unfolding Passed-and-no-more
+passed-and-no-more = of-every-call Passed-law Whole.passed-still Whole.passed-of-calls
 
 pub validated-once : Validated-once
 unfolding Validated-once

@@ -17,7 +17,7 @@ use Rattle.rules.specs.declared.ListCall.the-variants.{Pvalidate}
 use Rattle.rules.specs.declared.Wish.{Wish}
 use Rattle.rules.specs.declared.Launched.the-variants.{Made}
 use Rattle.rules.specs.Answers.{launched-number}
-use Rattle.rules.specs.Machine.{Lent, Machine, N, page-at, owner, monitor, vmsa-area, permitted, valid, table-byte, vcpu}
+use Rattle.rules.specs.Machine.{Lent, Machine, N, page-of, page-at, owner, monitor, vmsa-area, permitted, valid, table-byte, vcpu}
 use Rattle.rules.specs.Launch.{launch}
 use Rattle.rules.specs.Sound.{table-sized, pages-sized, sound}
 use Rattle.rules.specs.Lists.{list-next, list-entry, read-entry, carry-out-all, store-index, run}
@@ -25,8 +25,9 @@ use Rattle.rules.specs.Call.{Posed}
 use Rattle.rules.specs.Flat.{Buffers, parted, well-sized, sound-bytes, launch-bytes, call-bytes, registers-of, door-bytes}
 use Rattle.rules.specs.Runs.{Step, calls, stores, marks, called, step, run-steps, in-pool, pool, handled-as, taken-in, given-back, over-run}
 use Rattle.safety.specs.Terms.{Back, deletes, gives-back, all-succeed, Same-page, Kept-page, in-use, rounds, withdrawals, Recovered}
-use Rattle.safety.specs.Terms.{unreal, Left-by-gone, refused, Left-by-refusal, covers, covers-valid, second-code, Invalidated-before, Confined}
-use Rattle.safety.specs.Terms.{bytes-back, door-back, Act, store-act, mark-act, act, acts, act-deletes, act-gives-back, act-taken-in, act-given-back, over-acts, all-acts-succeed}
+use Rattle.safety.specs.Terms.{unreal, Left-by-gone, refused, number-of-list-call, Left-by-refusal, covers, covers-valid, second-code, Uncovered}
+use Rattle.safety.specs.Terms.{Invalid-by, Invalidated-before, Confined, bytes-back, door-back, Act, store-act, mark-act, act, acts, act-deletes}
+use Rattle.safety.specs.Terms.{act-gives-back, act-taken-in, act-given-back, over-acts, all-acts-succeed}
 use Rattle.safety.specs.Terms.{withdrawal-acts}
 use Rattle.safety.specs.Sentences.{Sound-machine}
 
@@ -170,10 +171,18 @@ Refusal-law caller g m a = a .answer ≡ Handled → refused (a .after .register
 unfoldable pub Refusal-leaves : Type 0
 Refusal-leaves = Of-every-call Refusal-law
 
--- 9. No second validation, the old monitor's fault: a page was validated twice, and the host slid an old page back. Of whole calls: page p was valid on entry,
--- and entry k, one that the index has passed, covers it with wish 1. Then the entry has bit 3, or an earlier one of the same call made the page invalid
+-- 9. No second validation, the old monitor's fault: a page was validated twice, and the host slid an old page back. Of whole calls: entry k, one that the index
+-- has passed, covers page p with wish 1. Then it has bit 3, or the page was not valid when the call came to it
 unfoldable pub Validation-law : ℕ → Registers → Lent → Back → Type 0
 Validation-law caller g m a =
+    handled-as 1 g (a .answer) ≡ true
+    → (k p : ℕ) → list-next (g .rcx) m ≤ k → k < list-next (g .rcx) (a .after .machine .lent)
+    → bit 2 (list-entry k (g .rcx) m) ≡ true → covers (list-entry k (g .rcx) m) p ≡ true
+    → (bit 3 (list-entry k (g .rcx) m) ≡ true) ⊎ Invalid-by k p (g .rcx) m
+
+-- so a page that was valid on entry of a call and is validated by it had bit 3 in its entry, or was made invalid by an earlier entry of that same call
+unfoldable pub Revalidation-law : ℕ → Registers → Lent → Back → Type 0
+Revalidation-law caller g m a =
     handled-as 1 g (a .answer) ≡ true
     → (k p : ℕ) → list-next (g .rcx) m ≤ k → k < list-next (g .rcx) (a .after .machine .lent)
     → bit 2 (list-entry k (g .rcx) m) ≡ true → covers (list-entry k (g .rcx) m) p ≡ true → valid (table-byte m p) ≡ true
@@ -181,6 +190,24 @@ Validation-law caller g m a =
 
 unfoldable pub Validated-once-a-call : Type 0
 Validated-once-a-call = Of-every-call Validation-law
+
+unfoldable pub Revalidated-by-leave : Type 0
+Revalidated-by-leave = Of-every-call Revalidation-law
+
+-- and a list call does what the index tells, 32 entries at most: a page that no passed entry covers, and that does not hold the list, has its table byte as it was,
+-- and its bytes but for the two of a calling area. (A machine cut from bytes of right size has whole pages.)
+unfoldable pub Passed-law : ℕ → Registers → Lent → Back → Type 0
+Passed-law caller g m a =
+    (call : ListCall) → pages-sized m ≡ true → handled-as (number-of-list-call call) g (a .answer) ≡ true →
+    let next = list-next (g .rcx) m in
+    let passed = list-next (g .rcx) (a .after .machine .lent) in
+    (passed ≤ next + 32)
+    × ((p : ℕ) → (p ≡ page-of (g .rcx) → ⊥) → Uncovered next passed p (g .rcx) m
+    → (table-byte (a .after .machine .lent) p ≡ table-byte m p)
+    × ((k : ℕ) → 2 ≤ k → getD (page-at (a .after .machine .lent) p) k 0 ≡ getD (page-at m p) k 0))
+
+unfoldable pub Passed-and-no-more : Type 0
+Passed-and-no-more = Of-every-call Passed-law
 
 -- and of one entry with wish 1 and bit 3 clear: (a) if it is carried out, every covered page was invalid
 unfoldable pub Validated-once : Type 0

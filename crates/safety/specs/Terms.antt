@@ -5,7 +5,7 @@ use mathlib.Core.Logic.{_⊎_}
 use mathlib.Core.Bool.{Bool, true, false, cond, not, _&&_, _||_}
 use mathlib.Core.List.{List, [], _∷_}
 use Prim.Native.Nat.{ℕ, zero, suc, _+_, _-_, _*_, _/_, _<_, _≤_}
-use lib.Dec.{ltb, eqb}
+use lib.Dec.{leb, ltb, eqb}
 use lib.ListN.{getD, set}
 use Rattle.rules.specs.Words.{page-size, record-size, large, multiple, bits, bit, without-bit, little, number, range, every, exists, count}
 use Rattle.rules.specs.declared.Registers.{Registers}
@@ -196,8 +196,11 @@ pub record Left-by-refusal (caller : ℕ) (g : Registers) (m : Lent) (after : Po
 
 -- ---- Validity
 
+-- entry e covers page p: one page from bits 63:12 on, or 512
 unfoldable pub covers : ℕ → ℕ → Bool
-covers e p = exists (eqb p) (covered e)
+covers e p =
+    let pages : ℕ = cond (eqb (bits 1 0 e) 0) 1 512 in
+    leb (bits 63 12 e) p && ltb p (bits 63 12 e + pages)
 
 unfoldable pub covers-valid : ℕ → Lent → Bool
 covers-valid e m = exists (λ p. valid (table-byte m p)) (covered e)
@@ -212,6 +215,16 @@ second-code rcx e m =
     cond ill-formed Parameter
     (cond (not (every coverable (covered e))) Address
     (cond (not (every (λ p. valid (table-byte m p)) (covered e))) SizeMismatch NoChange))
+
+-- no entry from one index to another covers page p
+unfoldable pub Uncovered : ℕ → ℕ → ℕ → ℕ → Lent → Type 0
+Uncovered from to p rcx m = (j : ℕ) → from ≤ j → j < to → covers (list-entry j rcx m) p ≡ false
+
+-- why page p is not valid when the call comes to entry k: the last earlier entry that covers it has wish 0; or none covers it, and it was not valid on entry
+pub data Invalid-by (k p rcx : ℕ) (m : Lent) : Type 0 where
+  on-entry : valid (table-byte m p) ≡ false → Uncovered (list-next rcx m) k p rcx m → Invalid-by k p rcx m
+  by-entry : (j : ℕ) → list-next rcx m ≤ j → j < k → bit 2 (list-entry j rcx m) ≡ false → covers (list-entry j rcx m) p ≡ true
+      → Uncovered (suc j) k p rcx m → Invalid-by k p rcx m
 
 -- an entry from next on and before entry k, with wish 0, that covers page p
 pub record Invalidated-before (k p rcx : ℕ) (m : Lent) : Type 0 where

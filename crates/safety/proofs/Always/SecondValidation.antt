@@ -1,24 +1,36 @@
 -- Statement 9, no second validation: an entry that validates covered no valid page; if it covers one it is refused; and what it validates is zero.
 use mathlib.Core.Path.{_≡_, refl, sym, _∙_}
-use mathlib.Core.Bool.{true, true≢false}
+use mathlib.Core.Bool.{Bool, true, cond, _&&_, true≢false, and-eq-true-iff}
 use mathlib.Core.List.{List, [], _∷_}
-use Prim.Native.Nat.{ℕ}
-use lib.Dec.{eqb, ltb}
+use Prim.Native.Nat.{ℕ, _+_}
+use lib.Dec.{eqb, leb, ltb}
 use lib.ListN.{length, getD, set, List·getD-eq-default}
 use lib.Seq.{getD-set-same, getD-set-other, set-out}
-use borrow.Author.Tests.{ltb-true, ltb-false, eqb-true, eqb-false}
+use borrow.Author.Tests.{leb-true, ltb-true, ltb-false, le-leb, lt-ltb, eqb-true, eqb-false}
 use Rattle.rules.specs.declared.Wish.the-variants.{Valid}
 use Rattle.rules.specs.declared.ListCall.the-variants.{Pvalidate}
-use Rattle.rules.specs.Words.{page-size, range, every, exists, each}
+use Rattle.rules.specs.Words.{page-size, large, bits, range, every, exists, each}
 use Rattle.rules.specs.Machine.{Lent, page-at, with-memory, zeros, fill, put, table-byte, valid, vcpu}
 use Rattle.rules.specs.Lists.{entry-first, entry-pages, covered, malformed, coverable, read-covered, read-entry}
 use Rattle.rules.specs.Lists.{list-entry, reserved-bits, cleared, carry-out, carry-out-all, after-entry, run}
-use Rattle.laws.proofs.Ranges.{by-test}
+use Rattle.laws.proofs.Ranges.{by-test, →every-range, exists-range}
 use Rattle.laws.proofs.Numbers.{zeros-at}
 use Rattle.safety.specs.Terms.{covers, covers-valid, second-code}
 use Rattle.safety.specs.Statements.{Validated-once, Second-validation-refused, Validated-pages-zero, Carried-out}
-use Rattle.safety.proofs.Small.{every-not-exists}
+use Rattle.safety.proofs.Small.{every-not-exists, not-among}
 use Rattle.safety.proofs.Entries.{wish-of, unread, covered-read, entry-read}
+
+-- the pages that an entry covers are those of its range
+pub covers-listed : (e p : ℕ) → covers e p ≡ exists (eqb p) (covered e)
+unfolding covers covered entry-first entry-pages large
+covers-listed e p =
+    let first = bits 63 12 e in
+    let n : ℕ = cond (eqb (bits 1 0 e) 0) 1 512 in
+    let test : ℕ → Bool = λ q. leb first q && ltb q (first + n) in
+    by-test (test p)
+    (λ t. let both = and-eq-true-iff (leb first p) (ltb p (first + n)) .0 t in
+    t ∙ sym (exists-range first n p (leb-true first p (both .0)) (ltb-true p (first + n) (both .1))))
+    (λ t. t ∙ sym (not-among test p (range first n) (→every-range test first n (λ q l h. rw (le-leb first q l, lt-ltb q (first + n) h))) t))
 
 -- (a) an entry that validates covered no valid page
 pub validated-once : Validated-once
@@ -83,11 +95,12 @@ all-filled vmpl p (q ∷ qs) m h =
 
 -- (c) the pages that an entry validates are zero
 pub validated-pages-zero : Validated-pages-zero
-unfolding Validated-pages-zero covers page-at carry-out-all covered Zero wish-of
-validated-pages-zero caller rcx e first n wish m two h p k x =
+unfolding Validated-pages-zero page-at carry-out-all covered Zero wish-of
+validated-pages-zero caller rcx e first n wish m two h p k covering =
     let told = entry-read Pvalidate caller rcx e first n wish m h in
     let valid-wish : wish ≡ Valid = sym (told .wishes) ∙ rw two in
-    rw (valid-wish, ← told .starts, ← told .many) (all-filled (vcpu m caller .vmpl) p (range (entry-first e) (entry-pages e)) m x k)
+    let listed = sym (covers-listed e p) ∙ covering in
+    rw (valid-wish, ← told .starts, ← told .many) (all-filled (vcpu m caller .vmpl) p (range (entry-first e) (entry-pages e)) m listed k)
 
 -- an entry that reads is carried out, and the run goes on
 pub carried-out : Carried-out

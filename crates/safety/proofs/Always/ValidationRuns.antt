@@ -1,5 +1,5 @@
--- Runs of Pvalidate: an entry that the index has passed, with wish 1 and bit 3 clear, covers no page that was valid when the run began, unless an entry before
--- it in the run made that page invalid. Of every machine: where the list's page is short or missing, the stored index reads as no more than it is.
+-- Runs of Pvalidate: an entry that the index has passed, with wish 1 and bit 3 clear, covers no page that was valid when the run came to it; and why a page is
+-- not. Of every machine: where the list's page is short or missing, the stored index reads as no more than it is.
 use mathlib.Core.Path.{_≡_, refl, sym, _∙_, ap}
 use mathlib.Core.Logic.{_⊎_, inl, inr}
 use mathlib.Core.Bool.{Bool, true, false, not, true≢false}
@@ -17,19 +17,20 @@ use Rattle.rules.specs.declared.ListCall.the-variants.{Pvalidate}
 use Rattle.rules.specs.declared.Wish.{Wish}
 use Rattle.rules.specs.declared.Wish.the-variants.{Valid}
 use Rattle.rules.specs.Answers.{Answered}
-use Rattle.rules.specs.Words.{bit, little, number, range, each}
-use Rattle.rules.specs.Machine.{Lent, N, page-of, offset-of, page-at, zeros, valid, table-byte, vcpu}
-use Rattle.rules.specs.Lists.{in-list, list-next, list-entry, store-index, covered, read-entry, wished, carry-out, carry-out-all, after-entry, run}
+use Rattle.rules.specs.Words.{bit, little, number, range, exists, each}
+use Rattle.rules.specs.Machine.{Lent, N, below, page-of, offset-of, page-at, zeros, valid, table-byte, vcpu}
+use Rattle.rules.specs.Lists.{in-list, list-next, list-entry, store-index, covered, coverable, read-entry, wished, carry-out, carry-out-all}
+use Rattle.rules.specs.Lists.{after-entry, run}
 use Rattle.laws.proofs.Ranges.{by-test}
 use Rattle.laws.proofs.Numbers.{getD-sets-elsewhere, number-zeros}
 use Rattle.laws.proofs.TableByte.{byte·simp}
-use Rattle.safety.specs.Terms.{covers, covers-valid, Invalidated-before}
+use Rattle.safety.specs.Terms.{covers, covers-valid, Uncovered, Invalid-by, on-entry, by-entry}
 use Rattle.safety.specs.Statements.{Validated-once}
 use Rattle.safety.proofs.Small.{every-not-exists, among}
-use Rattle.safety.proofs.Effects.{page-written, page-out, put-same, carry-out-table, carry-out-other}
-use Rattle.safety.proofs.Entries.{wish-of, entry-read, next-kept, entry-kept}
-use Rattle.safety.proofs.Kept.Untouched.{carry-elsewhere, each-elsewhere}
-use Rattle.safety.proofs.Always.SecondValidation.{validated-once}
+use Rattle.safety.proofs.Effects.{page-written, page-out, put-same, put-N, carry-out-table, carry-out-other}
+use Rattle.safety.proofs.Entries.{wish-of, entry-read, entry-kept}
+use Rattle.safety.proofs.Always.SecondValidation.{covers-listed, validated-once}
+use Rattle.safety.proofs.Always.PassedRuns.{uncovered-more, uncovered-left}
 
 -- ---- the stored index
 
@@ -80,13 +81,16 @@ wished-valid : (vmpl b : ℕ) → valid (wished Valid vmpl b) ≡ true
 unfolding wished
 wished-valid vmpl b = simp byte·simp
 
--- a page that is valid stays so where pages are made valid
-stays-valid : (vmpl p q : ℕ) (m : Lent) → valid (table-byte m p) ≡ true → valid (table-byte (carry-out Valid vmpl q m) p) ≡ true
+-- a page of the table that is made valid is so
+made-valid : (vmpl p : ℕ) (m : Lent) → p < N m → valid (table-byte (carry-out Valid vmpl p m) p) ≡ true
 unfolding table-byte
+made-valid vmpl p m h = rw (carry-out-table Valid vmpl p m, put-same m p (wished Valid vmpl (table-byte m p)) h) (wished-valid vmpl (table-byte m p))
+
+-- and stays so where others are
+stays-valid : (vmpl p q : ℕ) (m : Lent) → valid (table-byte m p) ≡ true → valid (table-byte (carry-out Valid vmpl q m) p) ≡ true
 stays-valid vmpl p q m h =
     by-test (eqb p q)
-    (λ t. let put-there = put-same m p (wished Valid vmpl (table-byte m p)) (valid-below m p h) in
-    rw (← eqb-true p q t, carry-out-table Valid vmpl p m, put-there) (wished-valid vmpl (table-byte m p)))
+    (λ t. rw (← eqb-true p q t) (made-valid vmpl p m (valid-below m p h)))
     (λ t. rw (carry-out-other Valid vmpl q m p (eqb-false p q t)) h)
 
 all-stay-valid : (vmpl p : ℕ) (qs : List ℕ) (m : Lent) → valid (table-byte m p) ≡ true → valid (table-byte (each (carry-out Valid vmpl) qs m) p) ≡ true
@@ -94,114 +98,133 @@ unfolding each
 all-stay-valid vmpl p [] m h = h
 all-stay-valid vmpl p (q ∷ qs) m h = all-stay-valid vmpl p qs (carry-out Valid vmpl q m) (stays-valid vmpl p q m h)
 
-module _ (caller rcx e first n : ℕ) (wish : Wish) (m : Lent) (reads : read-entry Pvalidate caller rcx e m ≡ Reads first n wish)
-    (p : ℕ) (was : valid (table-byte m p) ≡ true) where
-  abbrev carried : Lent
-  carried = carry-out-all wish (vcpu m caller .vmpl) first n m
+carried-N : (vmpl q : ℕ) (m : Lent) → N (carry-out Valid vmpl q m) ≡ N m
+unfolding N
+carried-N vmpl q m = ap length (carry-out-table Valid vmpl q m) ∙ put-N m q (wished Valid vmpl (table-byte m q))
 
-  -- an entry that has made a valid page invalid covers it
-  turned-covered : valid (table-byte carried p) ≡ false → covers e p ≡ true
-  unfolding carry-out-all covers covered
-  turned-covered is =
+-- so one of some pages that are made valid is so after all of them
+all-made-valid : (vmpl p : ℕ) (qs : List ℕ) (m : Lent) → p < N m → exists (eqb p) qs ≡ true → valid (table-byte (each (carry-out Valid vmpl) qs m) p) ≡ true
+unfolding each exists
+all-made-valid vmpl p [] m h x = absurd (true≢false (sym x))
+all-made-valid vmpl p (q ∷ qs) m h x =
+    by-test (eqb p q)
+    (λ t. all-stay-valid vmpl p qs (carry-out Valid vmpl q m) (rw (← eqb-true p q t) (made-valid vmpl p m h)))
+    (λ t. all-made-valid vmpl p qs (carry-out Valid vmpl q m) (rw carried-N h) (rw t at x))
+
+module _ (caller rcx e first n : ℕ) (wish : Wish) (m : Lent) (reads : read-entry Pvalidate caller rcx e m ≡ Reads first n wish) (p : ℕ)
+    (two : bit 2 e ≡ true) (covering : covers e p ≡ true) where
+  listed : exists (eqb p) (range first n) ≡ true
+  unfolding covered
+  listed =
       let told = entry-read Pvalidate caller rcx e first n wish m reads in
-      by-test (covers e p) (λ t. t) (λ t.
-      let same = each-elsewhere (carry-out wish (vcpu m caller .vmpl)) p (carry-elsewhere wish (vcpu m caller .vmpl) p) (range first n) m
-      (rw (told .starts, told .many) at t) in
-      absurd (true≢false (sym was ∙ sym (ap valid (same .byte)) ∙ is)))
+      rw (told .starts, told .many) at (sym (covers-listed e p) ∙ covering)
 
-  -- and has wish 0
-  turned-wished : valid (table-byte carried p) ≡ false → bit 2 e ≡ false
+  inside : p < N m
+  unfolding coverable below
+  inside =
+      let told = entry-read Pvalidate caller rcx e first n wish m reads in
+      by-test (ltb p (N m)) (ltb-true p (N m))
+      (λ t. absurd (true≢false (sym (rw t at (among (coverable caller rcx m) p (range first n) (told .passed) listed)))))
+
+  -- an entry with wish 1 makes the pages that it covers valid
+  validated : valid (table-byte (carry-out-all wish (vcpu m caller .vmpl) first n m) p) ≡ true
   unfolding carry-out-all wish-of
-  turned-wished is =
+  validated =
       let told = entry-read Pvalidate caller rcx e first n wish m reads in
-      by-test (bit 2 e)
-      (λ t. let wishes : wish ≡ Valid = sym (told .wishes) ∙ rw t in
-      absurd (true≢false (sym (all-stay-valid (vcpu m caller .vmpl) p (range first n) m was) ∙ (rw wishes at is))))
-      (λ t. t)
+      let wishes : wish ≡ Valid = sym (told .wishes) ∙ rw two in
+      rw wishes (all-made-valid (vcpu m caller .vmpl) p (range first n) m inside listed)
 
-  -- one that makes pages valid, and covers this one, has bit 3
-  excused-by-bit : bit 2 e ≡ true → covers e p ≡ true → bit 3 e ≡ true
-  unfolding covers covers-valid Validated-once
-  excused-by-bit two covering =
+  -- and has bit 3 if one was
+  excused-by-bit : valid (table-byte m p) ≡ true → bit 3 e ≡ true
+  unfolding covers-valid Validated-once
+  excused-by-bit was =
       by-test (bit 3 e) (λ t. t) (λ t.
       let test : ℕ → Bool = λ q. valid (table-byte m q) in
       let none = every-not-exists test (covered e) ∙ ap not (validated-once caller rcx e first n wish m two t reads) in
-      absurd (true≢false (sym (rw was at (among (λ q. not (test q)) p (covered e) none covering)))))
+      absurd (true≢false (sym (rw was at (among (λ q. not (test q)) p (covered e) none (sym (covers-listed e p) ∙ covering))))))
 
 -- ---- a run
 
-module _ (caller rcx p : ℕ) where
-  -- entry i, once the index has passed it, covers no page valid on entry but with bit 3, or after an entry that made it invalid
-  unfoldable pub Excused : ℕ → Lent → Lent → Type 0
-  Excused i m after =
+-- the reason still holds after an entry that does not cover the page
+still-invalid : (k p rcx : ℕ) (m : Lent) → covers (list-entry k rcx m) p ≡ false → Invalid-by k p rcx m → Invalid-by (suc k) p rcx m
+still-invalid k p rcx m away (on-entry was none) = on-entry was (uncovered-more (list-next rcx m) k p rcx m none away)
+still-invalid k p rcx m away (by-entry j from up wish-0 covering none) =
+    by-entry j from (omega arith) wish-0 covering (uncovered-more (suc j) k p rcx m none away)
+
+-- an entry with wish 0 is one
+just-invalidated : (k p rcx : ℕ) (m : Lent) → list-next rcx m ≤ k → bit 2 (list-entry k rcx m) ≡ false → covers (list-entry k rcx m) p ≡ true
+    → Invalid-by (suc k) p rcx m
+unfolding Uncovered
+just-invalidated k p rcx m low wish-0 covering = by-entry k low (omega arith) wish-0 covering (λ j from up. absurd (omega arith))
+
+module _ (caller rcx p : ℕ) (m : Lent) where
+  -- the call has come to entry k, with this machine: the entries are as they were, and a page that is not valid has its reason
+  pub record Come (k : ℕ) (now : Lent) : Type 0 where
+    pub entries : (j : ℕ) → list-entry j rcx now ≡ list-entry j rcx m
+    pub why : valid (table-byte now p) ≡ false → Invalid-by k p rcx m
+
+  -- entry i, once the index has passed it, has an excuse
+  unfoldable pub Excused : ℕ → Lent → Type 0
+  Excused i after =
       list-next rcx m ≤ i → i < list-next rcx after → bit 2 (list-entry i rcx m) ≡ true → covers (list-entry i rcx m) p ≡ true
-      → valid (table-byte m p) ≡ true → (bit 3 (list-entry i rcx m) ≡ true) ⊎ Invalidated-before i p rcx m
+      → (bit 3 (list-entry i rcx m) ≡ true) ⊎ Invalid-by i p rcx m
+
+  -- on entry
+  pub come : Come (list-next rcx m) m
+  unfolding Uncovered
+  come = record { entries = λ j. refl; why = λ was. on-entry was (λ j from up. absurd (omega arith)) }
 
   -- where the index is no further than i
-  stopped : (k i : ℕ) (m : Lent) → k ≤ i → Excused i m (store-index k rcx m)
+  stopped : (k i : ℕ) (now : Lent) → k ≤ i → Excused i (store-index k rcx now)
   unfolding Excused
-  stopped k i m up from passed = absurd (omega (arith, stored-at-most k rcx m))
+  stopped k i now up from passed = absurd (omega (arith, stored-at-most k rcx now))
 
-  module _ (k i first n : ℕ) (wish : Wish) (m after : Lent) (reads : read-entry Pvalidate caller rcx (list-entry k rcx m) m ≡ Reads first n wish) where
+  module _ (k first n : ℕ) (wish : Wish) (now : Lent) (low : list-next rcx m ≤ k) (h : Come k now)
+      (reads : read-entry Pvalidate caller rcx (list-entry k rcx now) now ≡ Reads first n wish) where
     abbrev then : Lent
-    then = carry-out-all wish (vcpu m caller .vmpl) first n m
+    then = carry-out-all wish (vcpu now caller .vmpl) first n now
 
-    next : list-next rcx then ≡ list-next rcx m
-    next = next-kept Pvalidate caller rcx (list-entry k rcx m) first n wish m reads
+    -- the page after entry k
+    why-then : valid (table-byte then p) ≡ false → Invalid-by (suc k) p rcx m
+    why-then is =
+        let e = list-entry k rcx now in
+        by-test (covers e p)
+        (λ t. by-test (bit 2 e)
+        (λ two. absurd (true≢false (sym (validated caller rcx e first n wish now reads p two t) ∙ is)))
+        (λ two. just-invalidated k p rcx m low (rw (h .entries k) at two) (rw (h .entries k) at t)))
+        (λ t. still-invalid k p rcx m (rw (h .entries k) at t)
+        (h .why (sym (ap valid (uncovered-left Pvalidate caller rcx e first n wish now reads p t .byte)) ∙ is)))
 
-    kept : (j : ℕ) → list-entry j rcx then ≡ list-entry j rcx m
-    kept = entry-kept Pvalidate caller rcx (list-entry k rcx m) first n wish m reads
+    come-on : Come (suc k) then
+    come-on =
+        record {
+          entries = λ j. entry-kept Pvalidate caller rcx (list-entry k rcx now) first n wish now reads j ∙ h .entries j;
+          why = why-then;
+        }
 
-    excuse-kept : (bit 3 (list-entry i rcx then) ≡ true) ⊎ Invalidated-before i p rcx then → (bit 3 (list-entry i rcx m) ≡ true) ⊎ Invalidated-before i p rcx m
-    excuse-kept (inl three) = inl (rw kept at three)
-    excuse-kept (inr h) =
-        inr (record {
-          entry = h .entry;
-          from = omega (arith, h .from, next);
-          earlier = omega (arith, h .earlier, next);
-          wish-0 = rw kept at (h .wish-0);
-          covering = rw kept at (h .covering);
-        })
-
-    -- entry k
-    here : i ≡ k → Excused i m after
+    -- entry k itself
+    here : (after : Lent) → Excused k after
     unfolding Excused
-    here e from passed two covering was =
-        inl (rw e (excused-by-bit caller rcx (list-entry k rcx m) first n wish m reads p was (rw e at two) (rw e at covering)))
+    here after from passed two covering =
+        by-test (valid (table-byte now p))
+        (λ was. inl (rw (h .entries k) at (excused-by-bit caller rcx (list-entry k rcx now) first n wish now reads p
+        (rw (h .entries k) two) (rw (h .entries k) covering) was)))
+        (λ was. inr (h .why was))
 
-    -- those after it
-    later : list-next rcx m ≤ k → k < i → Excused i then after → Excused i m after
-    unfolding Excused
-    later low up rest from passed two covering was =
-        by-test (valid (table-byte then p))
-        (λ t. excuse-kept (rest (omega (arith, next)) passed (rw kept two) (rw kept covering) t))
-        (λ t. inr (record {
-          entry = k;
-          from = omega arith;
-          earlier = omega arith;
-          wish-0 = turned-wished caller rcx (list-entry k rcx m) first n wish m reads p was t;
-          covering = turned-covered caller rcx (list-entry k rcx m) first n wish m reads p was t;
-        }))
-
-    -- both
-    one-more : list-next rcx m ≤ k → k ≤ i → (list-next rcx then ≤ suc k → suc k ≤ i → Excused i then after) → Excused i m after
-    one-more low up rest =
-        by-test (eqb i k) (λ t. here (eqb-true i k t)) (λ t.
-        let past : k < i = omega (arith, eqb-false i k t) in
-        later low past (rest (omega (arith, next)) past))
-
-  entry-excused : (x : Entry) (k i : ℕ) (go-on : Lent → Answered Code Lent) (m : Lent) → read-entry Pvalidate caller rcx (list-entry k rcx m) m ≡ x
-      → ((now : Lent) → list-next rcx now ≤ suc k → suc k ≤ i → Excused i now (go-on now .after))
-      → list-next rcx m ≤ k → k ≤ i → Excused i m (after-entry x caller rcx k go-on m .after)
+  entry-excused : (x : Entry) (k i : ℕ) (go-on : Lent → Answered Code Lent) (now : Lent) → read-entry Pvalidate caller rcx (list-entry k rcx now) now ≡ x
+      → ((then : Lent) → Come (suc k) then → suc k ≤ i → Excused i (go-on then .after))
+      → list-next rcx m ≤ k → Come k now → k ≤ i → Excused i (after-entry x caller rcx k go-on now .after)
   unfolding after-entry
-  entry-excused (Reads first n wish) k i go-on m is rest low up =
-      one-more k i first n wish m _ is low up (rest (carry-out-all wish (vcpu m caller .vmpl) first n m))
-  entry-excused (Unread code) k i go-on m is rest low up = stopped _ i m (omega arith)
+  entry-excused (Reads first n wish) k i go-on now is rest low h up =
+      by-test (eqb i k)
+      (λ t. rw (eqb-true i k t) (here k first n wish now low h is _))
+      (λ t. rest _ (come-on k first n wish now low h is) (omega (arith, eqb-false i k t)))
+  entry-excused (Unread code) k i go-on now is rest low h up = stopped _ i now (omega arith)
 
   -- a run from entry k on, of any number of entries
-  pub run-excused : (todo k i : ℕ) (m : Lent) → list-next rcx m ≤ k → k ≤ i → Excused i m (run Pvalidate caller rcx todo k m .after)
+  pub run-excused : (todo k i : ℕ) (now : Lent) → list-next rcx m ≤ k → Come k now → k ≤ i → Excused i (run Pvalidate caller rcx todo k now .after)
   unfolding run
-  run-excused zero k i m low up = stopped _ i m (omega arith)
-  run-excused (suc todo) k i m low up =
-      entry-excused (read-entry Pvalidate caller rcx (list-entry k rcx m) m) k i (run Pvalidate caller rcx todo (suc k)) m refl
-      (run-excused todo (suc k) i) low up
+  run-excused zero k i now low h up = stopped _ i now (omega arith)
+  run-excused (suc todo) k i now low h up =
+      entry-excused (read-entry Pvalidate caller rcx (list-entry k rcx now) now) k i (run Pvalidate caller rcx todo (suc k)) now refl
+      (λ then g. run-excused todo (suc k) i then (omega arith) g) low h up
