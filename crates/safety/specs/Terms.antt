@@ -1,7 +1,6 @@
 -- The words of the statements: what became of a page, of the pool, of a call that is gone or refused, and what a host does with its bytes. A statement spells
 -- out what it says and does not lean on the rule that it judges, so some of these say again, in numbers, what a rule says.
 use mathlib.Core.Path.{_≡_}
-use mathlib.Core.Logic.{_⊎_}
 use mathlib.Core.Bool.{Bool, true, false, cond, not, _&&_, _||_}
 use mathlib.Core.List.{List, [], _∷_}
 use Prim.Native.Nat.{ℕ, zero, suc, _+_, _-_, _*_, _/_, _<_, _≤_}
@@ -172,12 +171,14 @@ unfoldable pub number-of-list-call : ListCall → ℕ
 number-of-list-call Pvalidate = 1
 number-of-list-call Deposit = 4
 
--- call 1 or 4 refused at an entry, one of the 32 from next on: the head was accepted, the run with budget entry - next was well and left entries, and left the
--- machine `before`, with `entry` stored in the index. There the entry reads as a refusal, whose code the call has told
-pub record At-entry (caller : ℕ) (g : Registers) (m : Lent) (after : Posed Registers Machine) : Type 0 where
-  pub call : ListCall
-  pub asked : asks-for (number-of-list-call call) g ≡ true
-  pub head : head-accepted (vcpu m caller .vmpl) (g .rcx) m ≡ true
+-- list call `call` came to its entries: RAX asks for it, the pending byte is 1 and its head is accepted
+unfoldable pub begun : ListCall → ℕ → Registers → Lent → Bool
+begun call caller g m =
+    asks-for (number-of-list-call call) g && eqb (pending caller m) 1 && head-accepted (vcpu m caller .vmpl) (g .rcx) m
+
+-- refused at an entry, one of the 32 from next on: the entries from next up to it were carried out, in a run with that budget, which left entries and the machine
+-- `before`, with `entry` stored in the index. There the entry reads as a refusal, whose code the call has told
+pub record At-entry (call : ListCall) (caller : ℕ) (g : Registers) (m : Lent) (after : Posed Registers Machine) : Type 0 where
   pub entry : ℕ
   pub from : list-next (g .rcx) m ≤ entry
   pub within : entry < list-next (g .rcx) m + 32
@@ -192,7 +193,10 @@ pub record At-entry (caller : ℕ) (g : Registers) (m : Lent) (after : Posed Reg
 pub record Left-by-refusal (caller : ℕ) (g : Registers) (m : Lent) (after : Posed Registers Machine) : Type 0 where
   pub registers : after .registers ≡ with-rax (after .registers .rax) g
   pub sheet : after .machine .lent .sheet ≡ m .sheet
-  pub lent : (after .machine .lent ≡ last-writes caller m) ⊎ At-entry caller g m after
+  -- a list that came to its entries was refused at one of them, and the earlier ones stand
+  pub at-entry : (call : ListCall) → begun call caller g m ≡ true → At-entry call caller g m after
+  -- any other refusal leaves all but the last writes
+  pub elsewhere : ((call : ListCall) → begun call caller g m ≡ false) → after .machine .lent ≡ last-writes caller m
 
 -- ---- Validity
 

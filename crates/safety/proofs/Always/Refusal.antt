@@ -1,33 +1,33 @@
--- Statement 8, refused: registers but RAX and the sheet are as they were, and the last writes are applied to the machine on entry or, for a list refused
--- at an entry, to the machine after the run up to there, in which that entry reads as a refusal.
+-- Statement 8, refused: registers but RAX and the sheet are as they were, and the last writes are applied to the machine on entry or, for a list that came to
+-- its entries, to the machine after the run up to the entry that reads as a refusal there.
 use mathlib.Core.Path.{_≡_, refl, sym, _∙_, ap}
-use mathlib.Core.Logic.{_⊎_, inl, inr}
-use mathlib.Core.Bool.{Bool, true, false, not, _&&_, true≢false}
+use mathlib.Core.Bool.{Bool, true, false, not, _&&_, true≢false, and-eq-true-iff}
 use Prim.Native.Nat.{ℕ, zero, suc, _+_, _-_, _<_, _≤_, min}
 use native.Mathlib.Omega.{arith}
-use lib.Dec.{eqb, ltb}
-use borrow.Author.Tests.{eq-eqb, lt-ltb, leb-false, not-false}
+use lib.Dec.{leb, eqb, ltb}
+use borrow.Author.Tests.{eq-eqb, eqb-true, eqb-false, lt-ltb, le-leb, leb-false, not-true, not-false}
 use Rattle.rules.specs.declared.Registers.{Registers}
 use Rattle.rules.specs.declared.Code.{Code}
 use Rattle.rules.specs.declared.Code.the-variants.{Success, Incomplete}
-use Rattle.rules.specs.declared.Outcome.the-variants.{Handled, Gone}
+use Rattle.rules.specs.declared.Outcome.the-variants.{Handled, Gone, BadMachine}
 use Rattle.rules.specs.declared.Entry.{Entry}
 use Rattle.rules.specs.declared.Entry.the-variants.{Reads, Unread}
 use Rattle.rules.specs.declared.ListCall.{ListCall}
 use Rattle.rules.specs.declared.ListCall.the-variants.{Pvalidate, Deposit}
-use Rattle.rules.specs.Answers.{Answered, code-number, outcome-number}
+use Rattle.rules.specs.Answers.{Answered, refuse, code-number, outcome-number}
 use Rattle.rules.specs.Words.{entries-a-call, multiple}
 use Rattle.rules.specs.Machine.{Lent, Machine, with-lent, with-memory, write, is-live, record-at, vcpu}
 use Rattle.rules.specs.Lists.{list-count, list-next, list-entry, store-index, bad-list-page, bad-count, bad-next, read-entry, carry-out-all, after-entry, run, run-within}
 use Rattle.rules.specs.Lists.{list-call}
 use Rattle.rules.specs.Calls.{remap, create, delete, withdraw, configure, vtom}
-use Rattle.rules.specs.Call.{Posed, with-rax, with-rcx, on-lent, on-rcx, handle, clear-pending, set-flag, finish, call}
+use Rattle.rules.specs.Call.{Posed, with-rax, with-rcx, pending, no-call, protocol, call-number, on-lent, on-rcx, dispatch, handle, clear-pending, set-flag, finish}
 use Rattle.rules.specs.Runs.{asks-for, head-accepted}
-use Rattle.laws.proofs.Ranges.{by-test}
-use Rattle.safety.specs.Terms.{unreal, refused, last-writes, number-of-list-call, At-entry, Left-by-refusal}
+use Rattle.laws.proofs.Ranges.{by-test, or-false}
+use Rattle.safety.specs.Terms.{unreal, refused, last-writes, number-of-list-call, begun, At-entry, Left-by-refusal}
 use Rattle.safety.specs.Statements.{On-machines, Refusal-law}
-use Rattle.safety.proofs.Branches.{on-test, on-refuse, never, on-handle, called-real, real-call}
+use Rattle.safety.proofs.Branches.{on-test, on-refuse, passed, never, on-handle, called-real, real-call}
 use Rattle.safety.proofs.Entries.{count-kept, entry-kept, read-stored, run-within-sheet}
+use Rattle.safety.proofs.Checks.{past-list}
 
 -- a code that refuses
 unfoldable refuses : Code → Bool
@@ -99,9 +99,8 @@ run-stopped call caller rcx (suc todo) k m b h =
 
 -- ---- each call, before the last writes
 
--- a list whose head was accepted, refused at an entry
+-- a list refused at an entry
 record Ran (budget : ℕ) (call : ListCall) (caller rcx : ℕ) (m : Lent) (a : Answered Code Lent) : Type 0 where
-  head : head-accepted (vcpu m caller .vmpl) rcx m ≡ true
   entry : ℕ
   from : list-next rcx m ≤ entry
   within : entry < list-next rcx m + budget
@@ -113,17 +112,16 @@ record Ran (budget : ℕ) (call : ListCall) (caller rcx : ℕ) (m : Lent) (a : A
   told : a .answer ≡ code
   reached : a .after ≡ before
 
-within-stopped : (budget : ℕ) (call : ListCall) (caller rcx : ℕ) (m : Lent) → head-accepted (vcpu m caller .vmpl) rcx m ≡ true
-    → list-next rcx m < list-count rcx m → refuses (run-within budget call caller rcx m .answer) ≡ true
+within-stopped : (budget : ℕ) (call : ListCall) (caller rcx : ℕ) (m : Lent) → list-next rcx m < list-count rcx m
+    → refuses (run-within budget call caller rcx m .answer) ≡ true
     → Ran budget call caller rcx m (run-within budget call caller rcx m)
 unfolding run-within
-within-stopped budget call caller rcx m head less h =
+within-stopped budget call caller rcx m less h =
     let next = list-next rcx m in
     let count = list-count rcx m in
     let s = run-stopped call caller rcx (min budget (count - next)) next m (omega arith) h in
     let same : min (s .entry - next) (count - next) ≡ s .entry - next = omega (arith, s .below, s .from) in
     record {
-      head = head;
       entry = s .entry;
       from = s .from;
       within = omega (arith, s .within);
@@ -173,81 +171,148 @@ module _ (m : Lent) where
   unfolding withdraw
   withdraw-unmoved caller rcx = on-refuse (Unmoved m) m _ _ _ (λ t h. refl) (λ t. on-refuse (Unmoved m) m _ _ _ (λ t h. refl) (λ t. succeeds))
 
+  -- a head that passes each check is accepted
   accepted : (vmpl rcx : ℕ) → multiple 8 rcx ≡ true → bad-list-page vmpl rcx m ≡ false → bad-count rcx m ≡ false → bad-next rcx m ≡ false
       → head-accepted vmpl rcx m ≡ true
   unfolding head-accepted
   accepted vmpl rcx eight page count next = rw (eight, page, count, next)
 
-  in-count : (rcx : ℕ) → bad-next rcx m ≡ false → list-next rcx m < list-count rcx m
-  unfolding bad-next
-  in-count rcx next = leb-false (list-count rcx m) (list-next rcx m) next
-
-  list-moved : (budget : ℕ) (call : ListCall) (caller rcx : ℕ) → refuses (list-call budget call caller rcx m .answer) ≡ true
-      → (list-call budget call caller rcx m .after ≡ m) ⊎ Ran budget call caller rcx m (list-call budget call caller rcx m)
+  -- where it is not, a list is refused before it is touched
+  list-unmoved : (budget : ℕ) (call : ListCall) (caller rcx : ℕ) → head-accepted (vcpu m caller .vmpl) rcx m ≡ false
+      → Unmoved m (list-call budget call caller rcx m)
   unfolding list-call
-  list-moved budget call caller rcx =
-      let Moved : Answered Code Lent → Type 0 = λ a. refuses (a .answer) ≡ true → (a .after ≡ m) ⊎ Ran budget call caller rcx m a in
-      on-refuse Moved m (not (multiple 8 rcx)) _ _ (λ t h. inl refl) (λ eight.
-      on-refuse Moved m (bad-list-page (vcpu m caller .vmpl) rcx m) _ _ (λ t h. inl refl) (λ page.
-      on-refuse Moved m (bad-count rcx m) _ _ (λ t h. inl refl) (λ count.
-      on-refuse Moved m (bad-next rcx m) _ _ (λ t h. inl refl) (λ next h.
-      inr (within-stopped budget call caller rcx m (accepted (vcpu m caller .vmpl) rcx (not-false _ eight) page count next) (in-count rcx next) h)))))
+  list-unmoved budget call caller rcx bad =
+      on-refuse (Unmoved m) m (not (multiple 8 rcx)) _ _ (λ t h. refl) (λ eight.
+      on-refuse (Unmoved m) m (bad-list-page (vcpu m caller .vmpl) rcx m) _ _ (λ t h. refl) (λ page.
+      on-refuse (Unmoved m) m (bad-count rcx m) _ _ (λ t h. refl) (λ count.
+      on-refuse (Unmoved m) m (bad-next rcx m) _ _ (λ t h. refl) (λ next h.
+      absurd (true≢false (sym (accepted (vcpu m caller .vmpl) rcx (not-false _ eight) page count next) ∙ bad))))))
 
--- what a refused call left before the last writes
-record Entered (caller : ℕ) (g : Registers) (m : Lent) (a : Answered Code (Posed Registers Machine)) : Type 0 where
-  call : ListCall
-  asked : asks-for (number-of-list-call call) g ≡ true
-  ran : Ran entries-a-call call caller (g .rcx) m (record { answer = a .answer; after = a .after .machine .lent })
+  -- where it is, the list is run, and next is below count
+  list-run : (budget : ℕ) (call : ListCall) (caller rcx : ℕ) → head-accepted (vcpu m caller .vmpl) rcx m ≡ true
+      → (list-call budget call caller rcx m ≡ run-within budget call caller rcx m) × (list-next rcx m < list-count rcx m)
+  unfolding list-call head-accepted bad-next
+  list-run budget call caller rcx good =
+      let page = not (bad-list-page (vcpu m caller .vmpl) rcx m) in
+      let count = not (bad-count rcx m) in
+      let three = and-eq-true-iff (multiple 8 rcx && page && count) (not (leb (list-count rcx m) (list-next rcx m))) .0 good in
+      let two = and-eq-true-iff (multiple 8 rcx && page) count .0 (three .0) in
+      let one = and-eq-true-iff (multiple 8 rcx) page .0 (two .0) in (
+        passed m _ _ _ (rw (one .0)) ∙ passed m _ _ _ (not-true _ (one .1)) ∙ passed m _ _ _ (not-true _ (two .1)) ∙ passed m _ _ _ (not-true _ (three .1)),
+        leb-false _ _ (not-true _ (three .1)),
+      )
 
+-- what a refused call left before the last writes: by its branch, where the elsewhere of the statement goes for a pending byte of 1
+record Moved (caller : ℕ) (g : Registers) (m : Lent) (a : Answered Code (Posed Registers Machine)) : Type 0 where
+  registers : a .after .registers ≡ g
+  sheet : a .after .machine .lent .sheet ≡ m .sheet
+  elsewhere : pending caller m ≡ 1 → ((call : ListCall) → begun call caller g m ≡ false) → a .after .machine .lent ≡ m
+
+-- and whole
 record Left (caller : ℕ) (g : Registers) (m : Lent) (a : Answered Code (Posed Registers Machine)) : Type 0 where
   registers : a .after .registers ≡ g
-  lent : (a .after .machine .lent ≡ m) ⊎ Entered caller g m a
+  sheet : a .after .machine .lent .sheet ≡ m .sheet
+  at-entry : (call : ListCall) → begun call caller g m ≡ true
+      → Ran entries-a-call call caller (g .rcx) m (record { answer = a .answer; after = a .after .machine .lent })
+  elsewhere : ((call : ListCall) → begun call caller g m ≡ false) → a .after .machine .lent ≡ m
 
 module _ (caller : ℕ) (g : Registers) (m : Machine) where
   abbrev posed : Posed Registers Machine
   posed = record { registers = g; machine = m }
 
-  abbrev Leaves : Answered Code (Posed Registers Machine) → Type 0
-  Leaves a = refuses (a .answer) ≡ true → Left caller g (m .lent) a
+  abbrev Moves : Answered Code (Posed Registers Machine) → Type 0
+  Moves a = refuses (a .answer) ≡ true → Moved caller g (m .lent) a
 
-  same : (code : Code) → Left caller g (m .lent) (record { answer = code; after = posed })
-  same code = record { registers = refl; lent = inl refl }
+  same : (code : Code) → Moves (record { answer = code; after = posed })
+  same code h = record { registers = refl; sheet = refl; elsewhere = λ one none. refl }
 
-  on-lent-leaves : (a : Answered Code Lent) → Unmoved (m .lent) a → Leaves (on-lent a posed)
+  on-lent-moves : (a : Answered Code Lent) → Unmoved (m .lent) a → Moves (on-lent a posed)
   unfolding on-lent with-lent
-  on-lent-leaves a unmoved h = record { registers = refl; lent = inl (unmoved h) }
+  on-lent-moves a unmoved h =
+      record { registers = refl; sheet = ap (λ now. now .sheet) (unmoved h); elsewhere = λ one none. unmoved h }
 
-  on-list-leaves : (call : ListCall) → asks-for (number-of-list-call call) g ≡ true
-      → Leaves (on-lent (list-call entries-a-call call caller (g .rcx) (m .lent)) posed)
-  unfolding on-lent with-lent
-  on-list-leaves call asked h = record { registers = refl; lent = entered (list-moved (m .lent) entries-a-call call caller (g .rcx) h) }
-    where
-      entered : {a : Answered Code Lent} → (a .after ≡ m .lent) ⊎ Ran entries-a-call call caller (g .rcx) (m .lent) a
-          → (a .after ≡ m .lent) ⊎ Entered caller g (m .lent) (on-lent a posed)
-      entered (inl e) = inl e
-      entered (inr r) = inr (record { call = call; asked = asked; ran = r })
+  on-list-moves : (call : ListCall) → asks-for (number-of-list-call call) g ≡ true
+      → Moves (on-lent (list-call entries-a-call call caller (g .rcx) (m .lent)) posed)
+  unfolding on-lent with-lent begun
+  on-list-moves call asked h =
+      record {
+        registers = refl;
+        sheet = past-list entries-a-call call caller (g .rcx) (m .lent) (λ now. now .sheet ≡ m .lent .sheet) refl
+            (λ page. run-within-sheet entries-a-call call caller (g .rcx) (m .lent));
+        elsewhere = λ one none. list-unmoved (m .lent) entries-a-call call caller (g .rcx) (simp (asked, eq-eqb _ _ one) at (none call)) h;
+      }
 
-  on-rcx-leaves : (a : Answered Code ℕ) → Unmoved (g .rcx) a → Leaves (on-rcx a posed)
+  on-rcx-moves : (a : Answered Code ℕ) → Unmoved (g .rcx) a → Moves (on-rcx a posed)
   unfolding on-rcx with-rcx
-  on-rcx-leaves a unmoved h = record { registers = rw (unmoved h); lent = inl refl }
+  on-rcx-moves a unmoved h = record { registers = rw (unmoved h); sheet = refl; elsewhere = λ one none. refl }
 
-  handle-leaves : Leaves (handle caller posed)
+  handle-moves : Moves (handle caller posed)
   unfolding number-of-list-call asks-for
-  handle-leaves =
-      on-handle caller posed Leaves
+  handle-moves =
+      on-handle caller posed Moves
       (record {
-        bad-pending = λ h. same _;
-        unknown-protocol = λ e h. same _;
-        remaps = λ e. on-lent-leaves _ (remap-unmoved (m .lent) caller (g .rcx));
-        validates = λ e. on-list-leaves Pvalidate (rw (eq-eqb _ _ (e .spoken), eq-eqb _ _ (e .number)));
-        creates = λ e. on-lent-leaves _ (create-unmoved (m .lent) caller (g .rcx) (g .rdx) (g .r8));
-        deletes = λ e. on-lent-leaves _ (delete-unmoved (m .lent) caller (g .rcx));
-        deposits = λ e. on-list-leaves Deposit (rw (eq-eqb _ _ (e .spoken), eq-eqb _ _ (e .number)));
-        withdraws = λ e. on-lent-leaves _ (withdraw-unmoved (m .lent) caller (g .rcx));
-        queries = λ e. on-rcx-leaves _ succeeds;
-        configures = λ e. on-rcx-leaves _ (vtom-unmoved (g .rcx));
-        unknown-call = λ e h. same _;
+        bad-pending = same _;
+        unknown-protocol = λ e. same _;
+        remaps = λ e. on-lent-moves _ (remap-unmoved (m .lent) caller (g .rcx));
+        validates = λ e. on-list-moves Pvalidate (rw (eq-eqb _ _ (e .spoken), eq-eqb _ _ (e .number)));
+        creates = λ e. on-lent-moves _ (create-unmoved (m .lent) caller (g .rcx) (g .rdx) (g .r8));
+        deletes = λ e. on-lent-moves _ (delete-unmoved (m .lent) caller (g .rcx));
+        deposits = λ e. on-list-moves Deposit (rw (eq-eqb _ _ (e .spoken), eq-eqb _ _ (e .number)));
+        withdraws = λ e. on-lent-moves _ (withdraw-unmoved (m .lent) caller (g .rcx));
+        queries = λ e. on-rcx-moves _ succeeds;
+        configures = λ e. on-rcx-moves _ (vtom-unmoved (g .rcx));
+        unknown-call = λ e. same _;
       })
+
+  -- a pending byte above 1 is refused at once
+  other-pending : leb 2 (pending caller (m .lent)) ≡ true → handle caller posed .after ≡ posed
+  unfolding handle refuse
+  other-pending e = rw e
+
+  -- a list that came to its entries
+  record Begins (call : ListCall) : Type 0 where
+    spoken : protocol g ≡ 0
+    number : call-number g ≡ number-of-list-call call
+    waiting : pending caller (m .lent) ≡ 1
+    head : head-accepted (vcpu (m .lent) caller .vmpl) (g .rcx) (m .lent) ≡ true
+
+  begins : (call : ListCall) → begun call caller g (m .lent) ≡ true → Begins call
+  unfolding begun asks-for
+  begins call b =
+      let outer = and-eq-true-iff (eqb (protocol g) 0 && eqb (call-number g) (number-of-list-call call) && eqb (pending caller (m .lent)) 1) _ .0 b in
+      let inner = and-eq-true-iff (eqb (protocol g) 0 && eqb (call-number g) (number-of-list-call call)) _ .0 (outer .0) in
+      let asks = and-eq-true-iff (eqb (protocol g) 0) _ .0 (inner .0) in
+      record { spoken = eqb-true _ _ (asks .0); number = eqb-true _ _ (asks .1); waiting = eqb-true _ _ (inner .1); head = outer .1 }
+
+  -- is handled as that list call
+  dispatched : (call : ListCall) → Begins call → handle caller posed ≡ on-lent (list-call entries-a-call call caller (g .rcx) (m .lent)) posed
+  unfolding number-of-list-call handle dispatch refuse
+  dispatched Pvalidate b = rw (b .waiting, b .spoken, b .number)
+  dispatched Deposit b = rw (b .waiting, b .spoken, b .number)
+
+  -- and was refused at one of them
+  handle-ran : (call : ListCall) → Begins call → (a : Answered Code (Posed Registers Machine)) → handle caller posed ≡ a → refuses (a .answer) ≡ true
+      → Ran entries-a-call call caller (g .rcx) (m .lent) (record { answer = a .answer; after = a .after .machine .lent })
+  unfolding on-lent with-lent
+  handle-ran call b a is h =
+      let runs = list-run (m .lent) entries-a-call call caller (g .rcx) (b .head) in
+      let same = sym is ∙ dispatched call b ∙ ap (λ x. on-lent x posed) (runs .0) in
+      rw same (within-stopped entries-a-call call caller (g .rcx) (m .lent) (runs .1) (rw same at h))
+
+  handle-leaves : no-call caller g (m .lent) ≡ false → refuses (handle caller posed .answer) ≡ true → Left caller g (m .lent) (handle caller posed)
+  unfolding no-call
+  handle-leaves real h =
+      let moved = handle-moves h in
+      let byte = pending caller (m .lent) in
+      let some = eqb-false byte 0 (or-false (eqb byte 0) _ real .0) in
+      record {
+        registers = moved .registers;
+        sheet = moved .sheet;
+        at-entry = λ call b. handle-ran call (begins call b) _ refl h;
+        elsewhere = λ none. by-test (eqb byte 1)
+            (λ t. moved .elsewhere (eqb-true byte 1 t) none)
+            (λ t. ap (λ (s : Posed Registers Machine). s .machine .lent) (other-pending (le-leb 2 byte (omega (arith, some, eqb-false byte 1 t)))));
+      }
 
 -- ---- the last writes
 
@@ -255,47 +320,38 @@ last-writes-sheet : (caller : ℕ) (m : Lent) → last-writes caller m .sheet �
 unfolding last-writes write with-memory
 last-writes-sheet caller m = refl
 
-module _ (caller : ℕ) (g : Registers) (m : Lent) (a : Answered Code (Posed Registers Machine)) where
-  left-sheet : (a .after .machine .lent ≡ m) ⊎ Entered caller g m a → a .after .machine .lent .sheet ≡ m .sheet
-  left-sheet (inl e) = ap (λ now. now .sheet) e
-  left-sheet (inr e) =
-      ap (λ now. now .sheet) (e .ran .reached) ∙ sym (ap (λ (x : Answered Code Lent). x .after .sheet) (e .ran .earlier))
-      ∙ run-within-sheet (e .ran .entry - list-next (g .rcx) m) (e .call) caller (g .rcx) m
-
-  left-lent : (r : Registers) → r .rax ≡ code-number (a .answer) → (a .after .machine .lent ≡ m) ⊎ Entered caller g m a
-      → (last-writes caller (a .after .machine .lent) ≡ last-writes caller m)
-      ⊎ At-entry caller g m (record { registers = r; machine = record { lent = last-writes caller (a .after .machine .lent) } })
-  unfolding entries-a-call
-  left-lent r rax (inl e) = inl (ap (last-writes caller) e)
-  left-lent r rax (inr e) =
-      inr (record {
-        call = e .call;
-        asked = e .asked;
-        head = e .ran .head;
-        entry = e .ran .entry;
-        from = e .ran .from;
-        within = e .ran .within;
-        below = e .ran .below;
-        before = e .ran .before;
-        earlier = e .ran .earlier;
-        code = e .ran .code;
-        unread = e .ran .unread;
-        told = rax ∙ ap code-number (e .ran .told);
-        reached = ap (last-writes caller) (e .ran .reached);
-      })
+-- at the entry where the list was refused
+left-at-entry : (call : ListCall) (caller : ℕ) (g : Registers) (m : Lent) (a : Answered Code Lent) (r : Registers) → r .rax ≡ code-number (a .answer)
+    → Ran entries-a-call call caller (g .rcx) m a
+    → At-entry call caller g m (record { registers = r; machine = record { lent = last-writes caller (a .after) } })
+unfolding entries-a-call
+left-at-entry call caller g m a r rax ran =
+    record {
+      entry = ran .entry;
+      from = ran .from;
+      within = ran .within;
+      below = ran .below;
+      before = ran .before;
+      earlier = ran .earlier;
+      code = ran .code;
+      unread = ran .unread;
+      told = rax ∙ ap code-number (ran .told);
+      reached = ap (last-writes caller) (ran .reached);
+    }
 
 -- a call that ends as handled, and refused
-ended : (caller : ℕ) (g : Registers) (m : Lent) (a : Answered Code (Posed Registers Machine))
+refusal-ended : (caller : ℕ) (g : Registers) (m : Lent) (a : Answered Code (Posed Registers Machine))
     → (refuses (a .answer) ≡ true → Left caller g m a) → finish caller g a .answer ≡ Handled
     → refused (finish caller g a .after .registers) ≡ true → Left-by-refusal caller g m (finish caller g a .after)
 unfolding finish with-lent with-rax outcome-number refused refuses last-writes clear-pending set-flag
-ended caller g m a leaves handled h =
+refusal-ended caller g m a leaves handled h =
     by-test (is-live (record-at (a .after .machine .lent) caller))
     (λ t. let l = leaves (rw t at h) in
     rw t (record {
       registers = rw (l .registers);
-      sheet = last-writes-sheet caller (a .after .machine .lent) ∙ left-sheet caller g m a (l .lent);
-      lent = left-lent caller g m a (with-rax (code-number (a .answer)) (a .after .registers)) refl (l .lent);
+      sheet = last-writes-sheet caller (a .after .machine .lent) ∙ l .sheet;
+      at-entry = λ call b. left-at-entry call caller g m _ (with-rax (code-number (a .answer)) (a .after .registers)) refl (l .at-entry call b);
+      elsewhere = λ none. ap (last-writes caller) (l .elsewhere none);
     }))
     (λ t. never Gone Handled refl (rw t at handled))
 
@@ -305,4 +361,10 @@ unfolding On-machines Refusal-law unreal
 refusal-leaves caller g m handled h =
     let real = real-call caller g m (ap unreal handled) in
     let is = called-real caller g m (real .0) (real .1) in
-    rw is (ended caller g (m .lent) _ (handle-leaves caller g m) (rw is at handled) (rw is at h))
+    rw is (refusal-ended caller g (m .lent) _ (handle-leaves caller g m (real .1)) (rw is at handled) (rw is at h))
+
+-- a call that left everything is no refusal
+pub refusal-still : (caller : ℕ) (g : Registers) (m : Lent)
+    → Refusal-law caller g m (record { answer = BadMachine; after = record { registers = g; machine = record { lent = m } } })
+unfolding Refusal-law outcome-number
+refusal-still caller g m = never BadMachine Handled refl
