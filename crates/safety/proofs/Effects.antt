@@ -1,8 +1,9 @@
 -- What the effects of the calls leave of any machine, sound or not: the table bytes, the number of pages, the sheet, memory.
 use mathlib.Core.Path.{_≡_, refl, sym, _∙_, ap}
+use mathlib.Core.Logic.{_⊎_}
 use mathlib.Core.Bool.{Bool, true, false, cond, _&&_, and-eq-true-iff}
 use mathlib.Core.List.{List, []}
-use Prim.Native.Nat.{ℕ, _<_, _≤_}
+use Prim.Native.Nat.{ℕ, _+_, _<_, _≤_}
 use native.Mathlib.Omega.{arith}
 use lib.Dec.{eqb, ltb}
 use lib.ListN.{length, getD, set, length-set, List·getD-eq-default}
@@ -16,6 +17,7 @@ use Rattle.rules.specs.Machine.{holds, needs-page, record-at, vcpu, startup, am
 use Rattle.rules.specs.Lists.{wished, cleared, carry-out, carry-out-all}
 use Rattle.rules.specs.Calls.{remapped, Asked, free-page, new-record, created, clear-svme, deleted, give-back, withdrawn-pages, withdrawn}
 use Rattle.laws.proofs.Ranges.{by-test, each-same}
+use Rattle.laws.proofs.Numbers.{getD-sets-elsewhere}
 use Rattle.laws.proofs.Counts.{sheet-each}
 use Rattle.safety.proofs.Small.{implied}
 use Rattle.safety.proofs.Branches.{on-test}
@@ -135,6 +137,19 @@ module _ (p offset : ℕ) (bytes : List ℕ) (m : Lent) where
   pub page-out : (q : ℕ) → length (m .memory) ≤ p → page-at (write p offset bytes m) q ≡ page-at m q
   unfolding page-at write with-memory written
   page-out q h = ap (λ pages. getD pages q []) (set-out (m .memory) p (sets (getD (m .memory) p []) offset bytes) h)
+
+-- a byte of any page, if the write ends before it or begins after it
+pub written-elsewhere : (p offset : ℕ) (bytes : List ℕ) (pages : List (List ℕ)) (q k : ℕ) → (k < offset) ⊎ (offset + length bytes ≤ k)
+    → getD (getD (written p offset bytes pages) q []) k 0 ≡ getD (getD pages q []) k 0
+unfolding written
+written-elsewhere p offset bytes pages q k h =
+    let page : List ℕ = sets (getD pages p []) offset bytes in
+    by-test (eqb q p)
+    (λ t. rw (eqb-true q p t)
+    (by-test (ltb p (length pages))
+    (λ u. rw (getD-set-same pages p page [] (ltb-true p (length pages) u)) (getD-sets-elsewhere (getD pages p []) offset bytes k 0 h))
+    (λ u. rw (set-out pages p page (ltb-false p (length pages) u)))))
+    (λ t. rw (getD-set-other pages p q page [] (eqb-false q p t)))
 
 -- ---- the sheet
 

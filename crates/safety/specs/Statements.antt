@@ -17,7 +17,7 @@ use Rattle.rules.specs.declared.ListCall.the-variants.{Pvalidate}
 use Rattle.rules.specs.declared.Wish.{Wish}
 use Rattle.rules.specs.declared.Launched.the-variants.{Made}
 use Rattle.rules.specs.Answers.{launched-number}
-use Rattle.rules.specs.Machine.{Lent, Machine, N, page-of, page-at, owner, monitor, vmsa-area, permitted, valid, table-byte, vcpu}
+use Rattle.rules.specs.Machine.{Lent, Machine, N, page-of, page-at, owner, monitor, vmsa-area, permitted, valid, table-byte, is-live, record-at, vcpu}
 use Rattle.rules.specs.Launch.{launch}
 use Rattle.rules.specs.Sound.{table-sized, pages-sized, sound}
 use Rattle.rules.specs.Lists.{list-next, list-entry, read-entry, carry-out-all, store-index, run}
@@ -157,9 +157,10 @@ Unreal-changes-no-byte =
     (caller : ℕ) (s : Posed (List ℕ) Buffers) → ((k : ℕ) → getD (s .registers) k 0 < 256) → unreal (door-bytes caller s .answer) ≡ true
     → door-bytes caller s .after ≡ s
 
--- Gone: all that is left is settled
+-- Gone: all that is left is settled; and who is told that the call was handled is still there
 unfoldable pub Gone-law : ℕ → Registers → Lent → Back → Type 0
-Gone-law caller g m a = a .answer ≡ Gone → Left-by-gone caller g m (a .after)
+Gone-law caller g m a =
+    (a .answer ≡ Gone → Left-by-gone caller g m (a .after)) × (a .answer ≡ Handled → is-live (record-at (a .after .machine .lent) caller) ≡ true)
 
 unfoldable pub Gone-leaves : Type 0
 Gone-leaves = Of-every-call Gone-law

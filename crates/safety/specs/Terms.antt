@@ -147,9 +147,11 @@ left-table v table =
     ▷ changed-byte (own plain) (v .calling)
     ▷ (λ now. cond (eqb (v .holding) 1) (changed-byte (own pool-free) (v .pool) now) now)
 
--- gone: registers and the caller's pending byte as they were; memory changes only in EFER bit 12 of the deleted VMSA and byte 1 of record 0's calling page;
--- the table is without the vCPU, and of the sheet only its record changes, to zeros
+-- gone: a Delete was asked for, of the caller's own VMSA. Registers and the caller's pending byte are as they were; memory changes only in EFER bit 12 of the
+-- deleted VMSA and byte 1 of record 0's calling page; the table is without the vCPU, and of the sheet only its record changes, to zeros
 pub record Left-by-gone (caller : ℕ) (g : Registers) (m : Lent) (after : Posed Registers Machine) : Type 0 where
+  pub asked : asks-for 3 g ≡ true
+  pub named : page-of (g .rcx) ≡ vcpu m caller .vmsa
   pub registers : after .registers ≡ g
   pub pending-byte : getD (page-at (after .machine .lent) (vcpu m caller .calling)) 0 0 ≡ pending caller m
   pub memory : after .machine .lent .memory

@@ -1,4 +1,5 @@
--- Statement 7, gone: the caller deleted itself, and that left registers and pending byte as they were, and of memory all but the VMSA and the flag.
+-- Statement 7, gone: the caller asked for it and deleted itself, and that left registers and pending byte as they were, and of memory all but the VMSA and the
+-- flag. A caller that is told that its call was handled is still there.
 use mathlib.Core.Path.{_≡_, refl, sym, _∙_, ap}
 use mathlib.Core.Logic.{_⊎_, inl, inr}
 use mathlib.Core.Bool.{true, false, cond}
@@ -7,11 +8,11 @@ use Prim.Native.Nat.{ℕ, _<_}
 use native.Mathlib.Omega.{arith}
 use lib.Dec.{eqb, ltb}
 use lib.ListN.{length, getD, set}
-use lib.Seq.{sets, getD-set-same, getD-set-other, set-out}
-use borrow.Author.Tests.{ltb-true, ltb-false, eqb-true, eqb-false, ne-eqb}
+use lib.Seq.{getD-set-same, getD-set-other, set-out}
+use borrow.Author.Tests.{ltb-true, ltb-false, eq-eqb, eqb-true, eqb-false, ne-eqb}
 use Rattle.rules.specs.declared.Registers.{Registers}
 use Rattle.rules.specs.declared.Code.{Code}
-use Rattle.rules.specs.declared.Outcome.the-variants.{Handled, Gone}
+use Rattle.rules.specs.declared.Outcome.the-variants.{Handled, Gone, BadMachine}
 use Rattle.rules.specs.declared.ListCall.{ListCall}
 use Rattle.rules.specs.declared.ListCall.the-variants.{Pvalidate, Deposit}
 use Rattle.rules.specs.Answers.{Answered, outcome-number}
@@ -20,13 +21,13 @@ use Rattle.rules.specs.Machine.{Lent, Machine, with-lent, page-of, page-at, wit
 use Rattle.rules.specs.Machine.{startup, amend, efer}
 use Rattle.rules.specs.Lists.{list-call}
 use Rattle.rules.specs.Calls.{remap, free-record, new-record, create, Asked, asked, clear-svme, deleted, named-by, delete, withdraw, any-free}
-use Rattle.rules.specs.Call.{Posed, pending, on-lent, on-rcx, handle, set-flag, finish, call}
+use Rattle.rules.specs.Call.{Posed, pending, on-lent, on-rcx, handle, clear-pending, set-flag, finish, call}
+use Rattle.rules.specs.Runs.{called}
 use Rattle.laws.proofs.Ranges.{by-test}
-use Rattle.laws.proofs.Numbers.{getD-sets-elsewhere}
 use Rattle.laws.proofs.Records.{is-live-laid-out, is-live-remapped}
-use Rattle.safety.specs.Terms.{unreal, svme-cleared, changed-byte, left-table, Left-by-gone}
+use Rattle.safety.specs.Terms.{asks-for, unreal, svme-cleared, changed-byte, left-table, Left-by-gone}
 use Rattle.safety.specs.Statements.{On-machines, Gone-law}
-use Rattle.safety.proofs.Effects.{remapped-sheet, created-sheet, deleted-sheet, deleted-memory, withdrawn-sheet}
+use Rattle.safety.proofs.Effects.{written-elsewhere, remapped-sheet, created-sheet, deleted-sheet, deleted-memory, withdrawn-sheet}
 use Rattle.safety.proofs.Entries.{run-within-sheet}
 use Rattle.safety.proofs.Branches.{never, on-handle, called-real, real-call}
 use Rattle.safety.proofs.Checks.{caller-of, past-remap, past-list, past-create, past-delete, past-withdraw}
@@ -58,17 +59,19 @@ unfolding new-record
 new-live a i m = is-live-laid-out _
 
 -- the caller deleted itself
-record Self-deleted (caller : ℕ) (m after : Lent) : Type 0 where
+record Self-deleted (caller : ℕ) (g : Registers) (m after : Lent) : Type 0 where
+  asked : asks-for 3 g ≡ true
+  named : page-of (g .rcx) ≡ vcpu m caller .vmsa
   other : caller ≡ 0 → ⊥
   reached : after ≡ deleted (vcpu m caller .vmpl) caller m
 
-module _ (caller : ℕ) (m : Lent) (live : is-live (getD (m .sheet) caller []) ≡ true) where
+module _ (caller : ℕ) (g : Registers) (m : Lent) (live : is-live (getD (m .sheet) caller []) ≡ true) where
   abbrev Stays : Lent → Type 0
   Stays after = is-live (getD (after .sheet) caller []) ≡ true
 
   -- it stays live, or the caller deleted itself
   abbrev Ends : Lent → Type 0
-  Ends after = Stays after ⊎ Self-deleted caller m after
+  Ends after = Stays after ⊎ Self-deleted caller g m after
 
   same-sheet : (sheet : List (List ℕ)) → sheet ≡ m .sheet → is-live (getD sheet caller []) ≡ true
   same-sheet sheet e = rw e live
@@ -91,12 +94,13 @@ module _ (caller : ℕ) (m : Lent) (live : is-live (getD (m .sheet) caller []) �
       let i = free-record m in
       inl (rw (created-sheet a i m) (filled-live (m .sheet) i caller (new-record a i m) (fit .row) (new-live a i m) live)))
 
-  delete-ends : (rcx : ℕ) → Ends (delete caller rcx m .after)
-  delete-ends rcx =
-      past-delete caller rcx m Ends (inl live) (λ fit.
-      let i = named-by (page-of rcx) m in
+  delete-ends : asks-for 3 g ≡ true → Ends (delete caller (g .rcx) m .after)
+  delete-ends asked =
+      past-delete caller (g .rcx) m Ends (inl live) (λ fit.
+      let i = named-by (page-of (g .rcx)) m in
       by-test (eqb i caller)
-      (λ u. inr (rw (eqb-true i caller u) (record { other = λ e. fit .later (eqb-true i caller u ∙ e); reached = refl })))
+      (λ u. let me = eqb-true i caller u in
+      inr (rw me (record { asked = asked; named = sym (rw me at (fit .named)); other = λ e. fit .later (me ∙ e); reached = refl })))
       (λ u. inl (rw (deleted-sheet (vcpu m caller .vmpl) i m, other-row (m .sheet) i caller (zeros record-size) u) live)))
 
   withdraw-ends : (rcx : ℕ) → Ends (withdraw caller rcx m .after)
@@ -104,9 +108,9 @@ module _ (caller : ℕ) (m : Lent) (live : is-live (getD (m .sheet) caller []) �
       past-withdraw caller rcx m Ends (inl live) (λ page. inl (same-sheet _ (withdrawn-sheet (vcpu m caller .vmpl) rcx m)))
 
   -- all eight
-  handle-comes : (g : Registers) → Ends (handle caller (record { registers = g; machine = record { lent = m } }) .after .machine .lent)
-  unfolding on-lent on-rcx with-lent
-  handle-comes g =
+  handle-comes : Ends (handle caller (record { registers = g; machine = record { lent = m } }) .after .machine .lent)
+  unfolding on-lent on-rcx with-lent asks-for
+  handle-comes =
       on-handle caller (record { registers = g; machine = record { lent = m } }) (λ a. Ends (a .after .machine .lent))
       (record {
         bad-pending = inl live;
@@ -114,7 +118,7 @@ module _ (caller : ℕ) (m : Lent) (live : is-live (getD (m .sheet) caller []) �
         remaps = λ e. remap-ends (g .rcx);
         validates = λ e. list-ends Pvalidate (g .rcx);
         creates = λ e. create-ends (g .rcx) (g .rdx) (g .r8);
-        deletes = λ e. delete-ends (g .rcx);
+        deletes = λ e. delete-ends (rw (eq-eqb _ _ (e .spoken), eq-eqb _ _ (e .number)));
         deposits = λ e. list-ends Deposit (g .rcx);
         withdraws = λ e. withdraw-ends (g .rcx);
         queries = λ e. inl live;
@@ -123,19 +127,6 @@ module _ (caller : ℕ) (m : Lent) (live : is-live (getD (m .sheet) caller []) �
       })
 
 -- ---- what is left
-
--- a write from `offset` on leaves the bytes before, of every page
-written-before : (p offset : ℕ) (bytes : List ℕ) (pages : List (List ℕ)) (q k : ℕ) → k < offset
-    → getD (getD (written p offset bytes pages) q []) k 0 ≡ getD (getD pages q []) k 0
-unfolding written
-written-before p offset bytes pages q k h =
-    by-test (eqb p q)
-    (λ t. rw (← eqb-true p q t)
-    (by-test (ltb p (length pages))
-    (λ u. rw (getD-set-same pages p (sets (getD pages p []) offset bytes) [] (ltb-true p (length pages) u))
-    (getD-sets-elsewhere (getD pages p []) offset bytes k 0 (inl h)))
-    (λ u. rw (set-out pages p (sets (getD pages p []) offset bytes) (ltb-false p (length pages) u)))))
-    (λ t. rw (other-row pages p q (sets (getD pages p []) offset bytes) t))
 
 -- the table without the vCPU
 deleted-table : (caller : ℕ) (m : Lent) → deleted (vcpu m caller .vmpl) caller m .table ≡ left-table (vcpu m caller) (m .table)
@@ -157,12 +148,15 @@ module _ (caller : ℕ) (g : Registers) (m : Lent) (other : caller ≡ 0 → ⊥
 
   left-pending : getD (page-at (set-flag after) (vcpu m caller .calling)) 0 0 ≡ pending caller m
   unfolding pending page-at clear-svme write with-memory
-  left-pending = rw left-memory (written-before _ 1 _ _ _ 0 (omega arith) ∙ written-before _ 0xD0 _ _ _ 0 (omega arith))
+  left-pending = rw left-memory (written-elsewhere _ 1 _ _ _ 0 (inl (omega arith)) ∙ written-elsewhere _ 0xD0 _ _ _ 0 (inl (omega arith)))
 
-  left : Left-by-gone caller g m (record { registers = g; machine = record { lent = set-flag after } })
+  left : asks-for 3 g ≡ true → page-of (g .rcx) ≡ vcpu m caller .vmsa
+      → Left-by-gone caller g m (record { registers = g; machine = record { lent = set-flag after } })
   unfolding svme-cleared clear-svme write with-memory efer page-at set-flag
-  left =
+  left asked named =
       record {
+        asked = asked;
+        named = named;
         registers = refl;
         pending-byte = left-pending;
         memory = left-memory;
@@ -172,19 +166,38 @@ module _ (caller : ℕ) (g : Registers) (m : Lent) (other : caller ≡ 0 → ⊥
 
 -- a call that ends as gone
 ended : (caller : ℕ) (g : Registers) (m : Lent) (live : is-live (getD (m .sheet) caller []) ≡ true) (a : Answered Code (Posed Registers Machine))
-    → Ends caller m live (a .after .machine .lent) → finish caller g a .answer ≡ Gone → Left-by-gone caller g m (finish caller g a .after)
+    → Ends caller g m live (a .after .machine .lent) → finish caller g a .answer ≡ Gone → Left-by-gone caller g m (finish caller g a .after)
 unfolding finish with-lent record-at outcome-number
 ended caller g m live a (inl stays) h = never Handled Gone refl (rw stays at h)
 ended caller g m live a (inr d) h =
     by-test (is-live (getD (a .after .machine .lent .sheet) caller []))
     (λ t. never Handled Gone refl (rw t at h))
-    (λ t. rw (t, d .reached) (left caller g m (d .other)))
+    (λ t. rw (t, d .reached) (left caller g m (d .other) (d .asked) (d .named)))
 
--- what a caller that is gone leaves
+-- and one that ends as handled
+stays : (caller : ℕ) (g : Registers) (a : Answered Code (Posed Registers Machine)) → finish caller g a .answer ≡ Handled
+    → is-live (record-at (finish caller g a .after .machine .lent) caller) ≡ true
+unfolding finish with-lent record-at clear-pending set-flag write with-memory outcome-number
+stays caller g a h =
+    by-test (is-live (getD (a .after .machine .lent .sheet) caller []))
+    (λ t. rw (t, t))
+    (λ t. never Gone Handled refl (rw t at h))
+
+-- what a caller that is gone leaves; and whoever is told that the call was handled is there
 pub gone-leaves : On-machines Gone-law
 unfolding On-machines Gone-law unreal record-at
-gone-leaves caller g m h =
-    let real = real-call caller g m (ap unreal h) in
-    let is = called-real caller g m (real .0) (real .1) in
-    let live = caller-of caller (m .lent) (real .0) .live in
-    rw is (ended caller g (m .lent) live _ (handle-comes caller (m .lent) live g) (rw is at h))
+gone-leaves caller g m =
+    let is : unreal (called caller g m .answer) ≡ false → called caller g m ≡ finish caller g (handle caller (record { registers = g; machine = m }))
+    = λ h. let real = real-call caller g m h in called-real caller g m (real .0) (real .1) in (
+      λ h.
+          let live = caller-of caller (m .lent) (real-call caller g m (ap unreal h) .0) .live in
+          let same = is (ap unreal h) in
+          rw same (ended caller g (m .lent) live _ (handle-comes caller g (m .lent) live) (rw same at h)),
+      λ h. let same = is (ap unreal h) in rw same (stays caller g _ (rw same at h)),
+    )
+
+-- a call that left everything keeps it
+pub gone-still : (caller : ℕ) (g : Registers) (m : Lent)
+    → Gone-law caller g m (record { answer = BadMachine; after = record { registers = g; machine = record { lent = m } } })
+unfolding Gone-law outcome-number
+gone-still caller g m = (never BadMachine Gone refl, never BadMachine Handled refl)
