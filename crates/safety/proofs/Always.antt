@@ -7,4 +7,5 @@ pub mod PassedRuns
 pub mod ValidationRuns
 pub mod WholeCalls
 pub mod Modest
+pub mod Entered
 pub mod Confined

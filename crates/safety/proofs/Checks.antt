@@ -219,6 +219,17 @@ low-bits : (n : ℕ) → bits 31 0 n < 256 ^ 4
 unfolding bits
 low-bits n = omega arith
 
+-- the VMSA that is asked for has no VMPL below the caller's
+create-rank : (a : Asked) (m : Lent) → unfit-vcpu a m ≡ false → a .caller-vmpl ≤ vmsa-vmpl (page-at m (a .vmsa))
+unfolding unfit-vcpu
+create-rank a m e =
+    let page = page-at m (a .vmsa) in
+    let low = ltb (vmsa-vmpl page) (a .caller-vmpl) in
+    let unlike = not (eqb (vmsa-features page) (startup m .features)) in
+    let used = exists (λ r. is-live r && eqb (fields r .apic) (a .apic)) (m .sheet) in
+    let three = or-false (unfit-vmsa page || low || unlike) used e .0 in
+    ltb-false _ _ (or-false (unfit-vmsa page) low (or-false (unfit-vmsa page || low) unlike three .0) .1)
+
 module _ (caller rcx rdx r8 : ℕ) (m : Lent) where
   abbrev wanted : Asked
   wanted = asked caller rcx rdx r8 m
@@ -256,7 +267,7 @@ module _ (caller rcx rdx r8 : ℕ) (m : Lent) where
         unused = four .1;
         least = leb-true _ _ (range .0);
         most = leb-true _ _ (range .1);
-        rank = ltb-false vmpl mine (two .1);
+        rank = create-rank wanted m vcpus;
         row = room;
         dead = free-dead m room;
         pool-in = λ t. free t .0;

@@ -1,10 +1,8 @@
 -- A proof for each statement of specs/Statements.antt, under its number. Nothing is assumed.
-use mathlib.Core.Path.{_≡_, refl}
+use mathlib.Core.Path.{_≡_}
 use mathlib.Core.Bool.{true}
 use Prim.Native.Nat.{ℕ, _<_}
-use Rattle.rules.specs.declared.Outcome.the-variants.{Handled, Gone, BadMachine}
 use Rattle.rules.specs.Words.{records, entries-a-call}
-use Rattle.rules.specs.Answers.{outcome-number}
 use Rattle.rules.specs.Machine.{Lent, is-live, record-at}
 use Rattle.rules.specs.Runs.{run-steps}
 use Rattle.safety.specs.Statements.{Demand-3, Sound-means, Launched-sound, Stays-sound, Sealed, Monitor-kept, Vmsa-kept, Pool-kept, Step-counted}
@@ -13,7 +11,6 @@ use Rattle.safety.specs.Statements.{Counted-from-launch, At-most, At-mos
 use Rattle.safety.specs.Statements.{Gone-law, Gone-leaves, Refusal-law, Refusal-leaves, Validation-law, Validated-once-a-call, Revalidation-law}
 use Rattle.safety.specs.Statements.{Revalidated-by-leave, Passed-law, Passed-and-no-more, Validated-once, Second-validation-refused}
 use Rattle.safety.specs.Statements.{Validated-pages-zero, Carried-out, Confinement-law, Calls-confined, Sizes-kept, Calls-on-bytes, Launched-on-bytes, Runs-on-bytes}
-use Rattle.safety.proofs.Branches.{never}
 use Rattle.safety.proofs.Keeping.{Each-keeps, run-keeps}
 use Rattle.safety.proofs.Sound.Facts.{Sound, open-sound, close-sound}
 use Rattle.safety.proofs.Sound.OnePage.{write-sound}
@@ -128,13 +125,13 @@ unfolding Unreal-changes-no-byte
 unreal-changes-no-byte = Unreal.unreal-changes-no-byte
 
 pub gone-leaves : Gone-leaves
-unfolding Gone-leaves Gone-law outcome-number
-gone-leaves = of-every-call Gone-law (λ caller g m e. never BadMachine Gone refl e) Gone.gone-leaves
+unfolding Gone-leaves
+gone-leaves = of-every-call Gone-law Gone.gone-still Gone.gone-leaves
 
 -- 8
 pub refusal-leaves : Refusal-leaves
-unfolding Refusal-leaves Refusal-law outcome-number
-refusal-leaves = of-every-call Refusal-law (λ caller g m e. never BadMachine Handled refl e) Refusal.refusal-leaves
+unfolding Refusal-leaves
+refusal-leaves = of-every-call Refusal-law Refusal.refusal-still Refusal.refusal-leaves
 
 -- 9
 pub validated-once-a-call : Validated-once-a-call

@@ -234,7 +234,7 @@ Carried-out =
     (call : ListCall) (caller rcx todo k first n : ℕ) (wish : Wish) (m : Lent) → read-entry call caller rcx (list-entry k rcx m) m ≡ Reads first n wish
     → run call caller rcx (suc todo) k m ≡ run call caller rcx todo (suc k) (carry-out-all wish (vcpu m caller .vmpl) first n m)
 
--- 10. Confined: a call by VMPL c gives no page a permission above c, makes no vCPU of a VMPL below c, and deletes none
+-- 10. Confined: a call by VMPL c gives no page a permission above c, makes no vCPU of a VMPL below c, by its record or by its VMSA, and deletes none
 unfoldable pub Confinement-law : ℕ → Registers → Lent → Back → Type 0
 Confinement-law caller g m a = Confined (vcpu m caller .vmpl) m (a .after .machine .lent)
 

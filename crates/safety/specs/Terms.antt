@@ -6,7 +6,7 @@ use mathlib.Core.List.{List, [], _∷_}
 use Prim.Native.Nat.{ℕ, zero, suc, _+_, _-_, _*_, _/_, _<_, _≤_}
 use lib.Dec.{leb, ltb, eqb}
 use lib.ListN.{getD, set}
-use Rattle.rules.specs.Words.{page-size, record-size, large, multiple, bits, bit, without-bit, little, number, range, every, exists, count}
+use Rattle.rules.specs.Words.{page-size, most-pages, record-size, large, multiple, bits, bit, without-bit, little, number, range, every, exists, count}
 use Rattle.rules.specs.declared.Registers.{Registers}
 use Rattle.rules.specs.declared.Vcpu.{Vcpu}
 use Rattle.rules.specs.declared.Outcome.{Outcome}
@@ -18,8 +18,8 @@ use Rattle.rules.specs.declared.ListCall.{ListCall}
 use Rattle.rules.specs.declared.ListCall.the-variants.{Pvalidate, Deposit}
 use Rattle.rules.specs.Answers.{Answered, outcome-number, code-number, verdict-number}
 use Rattle.rules.specs.Steps.{store, mark}
-use Rattle.rules.specs.Machine.{Lent, Machine, _▷_, below, page-of, page-at, written, write, zeros, owner, plain, pool-free, pool-in-use, valid, permitted}
-use Rattle.rules.specs.Machine.{grant, own, table-byte, owned-by, is-live, record-at, vcpu, startup}
+use Rattle.rules.specs.Machine.{Lent, Machine, _▷_, N, below, page-of, page-at, written, write, zeros, owner, plain, pool-free, pool-in-use, valid, permitted}
+use Rattle.rules.specs.Machine.{grant, own, table-byte, owned-by, is-live, record-at, vcpu, startup, vmsa-vmpl}
 use Rattle.rules.specs.Lists.{list-count, list-next, list-entry, covered, read-entry, run-within}
 use Rattle.rules.specs.Calls.{any-free, is-free}
 use Rattle.rules.specs.Call.{Posed, with-rax, pending}
@@ -245,6 +245,9 @@ pub record Confined (c : ℕ) (m after : Lent) : Type 0 where
   pub permissions : (p d : ℕ) → c < d → permitted d (table-byte after p) ≡ true → permitted d (table-byte m p) ≡ true
   pub made : (i : ℕ) → is-live (record-at after i) ≡ true → vcpu after i .vmpl < c → record-at after i ≡ record-at m i
   pub deleted : (i : ℕ) → is-live (record-at m i) ≡ true → vcpu m i .vmpl < c → record-at after i ≡ record-at m i
+  -- the VMSA of a vCPU that is made has no VMPL below c, either; a page's number fits a record's four bytes where N does
+  pub entered : N m ≤ most-pages → (i : ℕ) → is-live (record-at m i) ≡ false → is-live (record-at after i) ≡ true
+      → c ≤ vmsa-vmpl (page-at after (vcpu after i .vmsa))
 
 -- ---- What a host holds: bytes
 

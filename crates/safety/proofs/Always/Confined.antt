@@ -34,85 +34,86 @@ use Rattle.safety.proofs.Effects.{three-changed, carry-out-table, carry
 use Rattle.safety.proofs.Effects.{deleted-table, deleted-sheet}
 use Rattle.safety.proofs.Entries.{Keeps, within-keeps}
 use Rattle.safety.proofs.Checks.{Create-fit, past-list, past-withdraw, past-remap, past-create, past-delete}
-use Rattle.safety.proofs.Always.Modest.{same-confined, confined-here, joined-confined, confined-twice, each-confined, own-modest, revoke-modest}
-use Rattle.safety.proofs.Always.Modest.{given-modest, both-modest, wished-modest, three-confined, change-confined, amend-confined}
+use Rattle.safety.proofs.Always.Modest.{Bounded, same-bounded, bounded-here, joined-bounded, bounded-twice, each-bounded, own-modest, revoke-modest}
+use Rattle.safety.proofs.Always.Entered.{Entered, entered-here, ended-entered, handled-entered}
+use Rattle.safety.proofs.Always.Modest.{given-modest, both-modest, wished-modest, three-bounded, change-bounded, amend-bounded}
 
 -- ---- Pvalidate and Deposit
 
-carry-out-confined : (wish : Wish) (c p : ℕ) (m : Lent) → Confined c m (carry-out wish c p m)
+carry-out-bounded : (wish : Wish) (c p : ℕ) (m : Lent) → Bounded c m (carry-out wish c p m)
 unfolding change put
-carry-out-confined wish c p m =
-    confined-twice (change-confined c (wished wish c) p m (wished-modest wish c))
-    (same-confined c (change (wished wish c) p m) _ (carry-out-table wish c p m) (carry-out-sheet wish c p m))
+carry-out-bounded wish c p m =
+    bounded-twice (change-bounded c (wished wish c) p m (wished-modest wish c))
+    (same-bounded c (change (wished wish c) p m) _ (carry-out-table wish c p m) (carry-out-sheet wish c p m))
 
--- so far confined, and the sheet as it was: the caller's VMPL is the same
+-- so far bounded, and the sheet as it was: the caller's VMPL is the same
 record Going (caller : ℕ) (m now : Lent) : Type 0 where
   sheet : now .sheet ≡ m .sheet
-  good : Confined (vcpu m caller .vmpl) m now
+  good : Bounded (vcpu m caller .vmpl) m now
 
 module _ (caller rcx : ℕ) (m : Lent) where
   abbrev mine : ℕ
   mine = vcpu m caller .vmpl
 
-  entry-confined : (wish : Wish) (first n : ℕ) (now : Lent) → now .sheet ≡ m .sheet
-      → Confined mine now (carry-out-all wish (vcpu now caller .vmpl) first n now)
+  entry-bounded : (wish : Wish) (first n : ℕ) (now : Lent) → now .sheet ≡ m .sheet
+      → Bounded mine now (carry-out-all wish (vcpu now caller .vmpl) first n now)
   unfolding carry-out-all vcpu record-at
-  entry-confined wish first n now e =
+  entry-bounded wish first n now e =
       rw (ap (λ rows. fields (getD rows caller []) .vmpl) e)
-      (each-confined mine (carry-out wish mine) (carry-out-confined wish mine) (range first n) now)
+      (each-bounded mine (carry-out wish mine) (carry-out-bounded wish mine) (range first n) now)
 
   going : (call : ListCall) → Keeps call caller rcx (Going caller m)
   unfolding store-index write with-memory
   going call =
       record {
-        stored = λ k now h. record { sheet = h .sheet; good = confined-twice (h .good) (same-confined mine now _ refl refl) };
+        stored = λ k now h. record { sheet = h .sheet; good = bounded-twice (h .good) (same-bounded mine now _ refl refl) };
         carried = λ e first n wish now h r. record {
           sheet = entry-sheet wish _ first n now ∙ h .sheet;
-          good = confined-twice (h .good) (entry-confined wish first n now (h .sheet));
+          good = bounded-twice (h .good) (entry-bounded wish first n now (h .sheet));
         };
       }
 
-  list-call-confined : (budget : ℕ) (call : ListCall) → Confined mine m (list-call budget call caller rcx m .after)
-  list-call-confined budget call =
-      past-list budget call caller rcx m (Confined mine m) (confined-here mine m)
-      (λ page. within-keeps call caller rcx (Going caller m) (going call) budget m (record { sheet = refl; good = confined-here mine m }) .good)
+  list-call-bounded : (budget : ℕ) (call : ListCall) → Bounded mine m (list-call budget call caller rcx m .after)
+  list-call-bounded budget call =
+      past-list budget call caller rcx m (Bounded mine m) (bounded-here mine m)
+      (λ page. within-keeps call caller rcx (Going caller m) (going call) budget m (record { sheet = refl; good = bounded-here mine m }) .good)
 
 -- ---- the other calls, their checks passed
 
-withdrawn-confined : (c rcx : ℕ) (m : Lent) → Confined c m (withdrawn c rcx m)
+withdrawn-bounded : (c rcx : ℕ) (m : Lent) → Bounded c m (withdrawn c rcx m)
 unfolding withdrawn give-back write with-memory
-withdrawn-confined c rcx m =
-    confined-twice (each-confined c (give-back c) (λ p now. change-confined c _ p now (given-modest c)) (withdrawn-pages rcx m) m)
-    (same-confined c _ _ refl refl)
+withdrawn-bounded c rcx m =
+    bounded-twice (each-bounded c (give-back c) (λ p now. change-bounded c _ p now (given-modest c)) (withdrawn-pages rcx m) m)
+    (same-bounded c _ _ refl refl)
 
 -- Remap amends the caller's record, whose VMPL stays
-renamed-confined : (caller new : ℕ) (m : Lent) → Confined (vcpu m caller .vmpl) m (amend (λ r. sets r 12 (little 4 new)) caller m)
+renamed-bounded : (caller new : ℕ) (m : Lent) → Bounded (vcpu m caller .vmpl) m (amend (λ r. sets r 12 (little 4 new)) caller m)
 unfolding vcpu fields
-renamed-confined caller new m =
-    amend-confined _ _ caller m (λ live. omega (arith, getD-sets-elsewhere (record-at m caller) 12 (little 4 new) 1 0 (inl (omega arith))))
+renamed-bounded caller new m =
+    amend-bounded _ _ caller m (λ live. omega (arith, getD-sets-elsewhere (record-at m caller) 12 (little 4 new) 1 0 (inl (omega arith))))
     (λ live. omega arith)
 
-remapped-confined : (caller old new : ℕ) (m : Lent) → Confined (vcpu m caller .vmpl) m (remapped caller old new m)
+remapped-bounded : (caller old new : ℕ) (m : Lent) → Bounded (vcpu m caller .vmpl) m (remapped caller old new m)
 unfolding remapped amend write with-memory change put
-remapped-confined caller old new m =
+remapped-bounded caller old new m =
     let c = vcpu m caller .vmpl in
     let mid : Lent = cond (eqb old new) m (change (own 0) old m) in
-    joined-confined c m (change (own 1) new mid) (amend (λ r. sets r 12 (little 4 new)) caller m) _
-    (confined-twice (on-test (Confined c m) (eqb old new) _ _ (λ t. confined-here c m) (λ t. change-confined c (own 0) old m (own-modest c 0 refl)))
-    (change-confined c (own 1) new mid (own-modest c 1 refl)))
-    (renamed-confined caller new m) refl (remapped-sheet caller old new m)
+    joined-bounded c m (change (own 1) new mid) (amend (λ r. sets r 12 (little 4 new)) caller m) _
+    (bounded-twice (on-test (Bounded c m) (eqb old new) _ _ (λ t. bounded-here c m) (λ t. change-bounded c (own 0) old m (own-modest c 0 refl)))
+    (change-bounded c (own 1) new mid (own-modest c 1 refl)))
+    (renamed-bounded caller new m) refl (remapped-sheet caller old new m)
 
 -- Create fills a free record, with a VMPL that is not below the caller's
-created-confined : (a : Asked) (i : ℕ) (m : Lent) → Create-fit a i m → Confined (a .caller-vmpl) m (created a i m)
+created-bounded : (a : Asked) (i : ℕ) (m : Lent) → Create-fit a i m → Bounded (a .caller-vmpl) m (created a i m)
 unfolding amend new-record fields laid-out
-created-confined a i m fit =
+created-bounded a i m fit =
     let c = a .caller-vmpl in
     let new : List ℕ → List ℕ = λ old. new-record a i m in
-    joined-confined c m
+    joined-bounded c m
     (three-changed (λ b. own 5 (revoke b)) (own 1) (own 4) (a .vmsa) (a .calling) (free-page m) (needs-page i) m) (amend new i m) _
-    (three-confined c _ (own 1) (own 4) (a .vmsa) (a .calling) (free-page m) (needs-page i) m
+    (three-bounded c _ (own 1) (own 4) (a .vmsa) (a .calling) (free-page m) (needs-page i) m
     (both-modest c revoke (own 5) (revoke-modest c) (own-modest c 5 refl)) (own-modest c 1 refl) (own-modest c 4 refl))
-    (amend-confined c new i m (λ live. fit .rank) (λ live. absurd (true≢false (sym live ∙ fit .dead))))
+    (amend-bounded c new i m (λ live. fit .rank) (λ live. absurd (true≢false (sym live ∙ fit .dead))))
     (created-table a i m) (created-sheet a i m)
 
 -- Delete is done of a record whose VMPL is not below the caller's
@@ -125,51 +126,59 @@ delete-rank caller rcx m =
     (λ t done. ltb-false _ _ (or-false (not (multiple page-size rcx) || leb (length (m .sheet)) i || eqb i 0) _ t .1))
 
 -- and clears it
-deleted-confined : (c i : ℕ) (m : Lent) → c ≤ vcpu m i .vmpl → Confined c m (deleted c i m)
+deleted-bounded : (c i : ℕ) (m : Lent) → c ≤ vcpu m i .vmpl → Bounded c m (deleted c i m)
 unfolding amend
-deleted-confined c i m rank =
+deleted-bounded c i m rank =
     let v = vcpu m i in
     let held = holds (record-at m i) in
     let new : List ℕ → List ℕ = λ old. zeros record-size in
-    joined-confined c m (three-changed (λ b. grant c (own 0 b)) (own 0) (own 3) (v .vmsa) (v .calling) (v .pool) held m) (amend new i m) _
-    (three-confined c _ (own 0) (own 3) (v .vmsa) (v .calling) (v .pool) held m (given-modest c) (own-modest c 0 refl) (own-modest c 3 refl))
-    (amend-confined c new i m (λ live. absurd (true≢false (sym live ∙ is-live-zeros record-size))) (λ live. rank))
+    joined-bounded c m (three-changed (λ b. grant c (own 0 b)) (own 0) (own 3) (v .vmsa) (v .calling) (v .pool) held m) (amend new i m) _
+    (three-bounded c _ (own 0) (own 3) (v .vmsa) (v .calling) (v .pool) held m (given-modest c) (own-modest c 0 refl) (own-modest c 3 refl))
+    (amend-bounded c new i m (λ live. absurd (true≢false (sym live ∙ is-live-zeros record-size))) (λ live. rank))
     (deleted-table c i m) (deleted-sheet c i m)
 
 -- ---- a call
 
 -- the last writes are to memory
-ended : (caller : ℕ) (g : Registers) (c : ℕ) (m : Lent) (a : Answered Code (Posed Registers Machine)) → Confined c m (a .after .machine .lent)
-    → Confined c m (finish caller g a .after .machine .lent)
+ended : (caller : ℕ) (g : Registers) (c : ℕ) (m : Lent) (a : Answered Code (Posed Registers Machine)) → Bounded c m (a .after .machine .lent)
+    → Bounded c m (finish caller g a .after .machine .lent)
 unfolding finish with-lent clear-pending set-flag write with-memory
 ended caller g c m a h =
     let now = a .after .machine .lent in
-    confined-twice h
-    (on-test (λ (x : Answered Outcome (Posed Registers Machine)). Confined c now (x .after .machine .lent)) (is-live (record-at now caller)) _ _
-    (λ t. same-confined c now _ refl refl) (λ t. same-confined c now _ refl refl))
+    bounded-twice h
+    (on-test (λ (x : Answered Outcome (Posed Registers Machine)). Bounded c now (x .after .machine .lent)) (is-live (record-at now caller)) _ _
+    (λ t. same-bounded c now _ refl refl) (λ t. same-bounded c now _ refl refl))
 
 -- whatever it is handled as
 handled : (caller : ℕ) (g : Registers) (m : Machine)
-    → Confined (vcpu (m .lent) caller .vmpl) (m .lent) (handle caller (record { registers = g; machine = m }) .after .machine .lent)
+    → Bounded (vcpu (m .lent) caller .vmpl) (m .lent) (handle caller (record { registers = g; machine = m }) .after .machine .lent)
 unfolding on-lent on-rcx with-lent asked
 handled caller g m =
     let now = m .lent in
     let c = vcpu now caller .vmpl in
-    let still = confined-here c now in
-    on-handle caller (record { registers = g; machine = m }) (λ a. Confined c now (a .after .machine .lent))
+    let still = bounded-here c now in
+    on-handle caller (record { registers = g; machine = m }) (λ a. Bounded c now (a .after .machine .lent))
     (record {
       bad-pending = still;
       unknown-protocol = λ e. still;
-      remaps = λ e. past-remap caller (g .rcx) now (Confined c now) still (λ fit. remapped-confined caller _ _ now);
-      validates = λ e. list-call-confined caller (g .rcx) now entries-a-call _;
-      creates = λ e. past-create caller (g .rcx) (g .rdx) (g .r8) now (Confined c now) still (created-confined _ _ now);
-      deletes = λ e. past-delete caller (g .rcx) now (Confined c now) still (λ fit. deleted-confined c _ now (delete-rank caller (g .rcx) now (fit .done)));
-      deposits = λ e. list-call-confined caller (g .rcx) now entries-a-call _;
-      withdraws = λ e. past-withdraw caller (g .rcx) now (Confined c now) still (λ page. withdrawn-confined c (g .rcx) now);
+      remaps = λ e. past-remap caller (g .rcx) now (Bounded c now) still (λ fit. remapped-bounded caller _ _ now);
+      validates = λ e. list-call-bounded caller (g .rcx) now entries-a-call _;
+      creates = λ e. past-create caller (g .rcx) (g .rdx) (g .r8) now (Bounded c now) still (created-bounded _ _ now);
+      deletes = λ e. past-delete caller (g .rcx) now (Bounded c now) still (λ fit. deleted-bounded c _ now (delete-rank caller (g .rcx) now (fit .done)));
+      deposits = λ e. list-call-bounded caller (g .rcx) now entries-a-call _;
+      withdraws = λ e. past-withdraw caller (g .rcx) now (Bounded c now) still (λ page. withdrawn-bounded c (g .rcx) now);
       queries = λ e. still;
       configures = λ e. still;
       unknown-call = λ e. still;
     })
+
+-- ---- with what the VMSAs say
+
+whole : {c : ℕ} {m after : Lent} → Bounded c m after → Entered c m after → Confined c m after
+whole b e = record { permissions = b .permissions; made = b .made; deleted = b .deleted; entered = e }
+
+confined-here : (c : ℕ) (m : Lent) → Confined c m m
+confined-here c m = whole (bounded-here c m) (entered-here c m)
 
 -- a call that left everything is confined
 pub confined-still : (caller : ℕ) (g : Registers) (m : Lent)
@@ -184,4 +193,5 @@ confined caller g m =
     let c = vcpu (m .lent) caller .vmpl in
     let P : Posed Registers Machine → Type 0 = λ s. Confined c (m .lent) (s .machine .lent) in
     past P _ _ _ _ (confined-here c (m .lent))
-    (λ good. past P _ _ _ _ (confined-here c (m .lent)) (λ real. ended caller g c (m .lent) _ (handled caller g m)))
+    (λ good. past P _ _ _ _ (confined-here c (m .lent))
+    (λ real. whole (ended caller g c (m .lent) _ (handled caller g m)) (ended-entered caller g c (m .lent) _ (handled-entered caller g m))))

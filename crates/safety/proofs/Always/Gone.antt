@@ -22,10 +22,10 @@ use Rattle.rules.specs.Machine.{startup, amend, efer}
 use Rattle.rules.specs.Lists.{list-call}
 use Rattle.rules.specs.Calls.{remap, free-record, new-record, create, Asked, asked, clear-svme, deleted, named-by, delete, withdraw, any-free}
 use Rattle.rules.specs.Call.{Posed, pending, on-lent, on-rcx, handle, clear-pending, set-flag, finish, call}
-use Rattle.rules.specs.Runs.{called}
+use Rattle.rules.specs.Runs.{asks-for, called}
 use Rattle.laws.proofs.Ranges.{by-test}
 use Rattle.laws.proofs.Records.{is-live-laid-out, is-live-remapped}
-use Rattle.safety.specs.Terms.{asks-for, unreal, svme-cleared, changed-byte, left-table, Left-by-gone}
+use Rattle.safety.specs.Terms.{unreal, svme-cleared, changed-byte, left-table, Left-by-gone}
 use Rattle.safety.specs.Statements.{On-machines, Gone-law}
 use Rattle.safety.proofs.Effects.{written-elsewhere, remapped-sheet, created-sheet, deleted-sheet, deleted-memory, withdrawn-sheet}
 use Rattle.safety.proofs.Entries.{run-within-sheet}

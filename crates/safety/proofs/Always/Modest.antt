@@ -1,4 +1,4 @@
--- What is confined, for statement 10: steps in a row, the change of a table byte that gives no permission above c, and the change of a record that is of no VMPL
+-- What is bounded, for statement 10: steps in a row, the change of a table byte that gives no permission above c, and the change of a record that is of no VMPL
 -- below c, before it or after. Of every machine.
 use mathlib.Core.Path.{_≡_, refl, sym, _∙_}
 use mathlib.Core.Logic.{_⊎_, inl, inr}
@@ -18,16 +18,21 @@ use Rattle.rules.specs.Machine.{fields, is-live, record-at, vcpu, amend}
 use Rattle.rules.specs.Lists.{wished}
 use Rattle.laws.proofs.Ranges.{by-test}
 use Rattle.laws.proofs.TableByte.{permitted-grant, permitted-revoke, permitted-own, permitted-make-valid, permitted-make-invalid}
-use Rattle.safety.specs.Terms.{Confined}
 use Rattle.safety.proofs.Effects.{three-changed}
 use Rattle.safety.proofs.Branches.{on-test}
 
 -- ---- steps
 
+-- what Confined says of permissions and of the sheet. It holds step by step, whereas what a VMSA says is settled only once all writes are done
+pub record Bounded (c : ℕ) (m after : Lent) : Type 0 where
+  pub permissions : (p d : ℕ) → c < d → permitted d (table-byte after p) ≡ true → permitted d (table-byte m p) ≡ true
+  pub made : (i : ℕ) → is-live (record-at after i) ≡ true → vcpu after i .vmpl < c → record-at after i ≡ record-at m i
+  pub deleted : (i : ℕ) → is-live (record-at m i) ≡ true → vcpu m i .vmpl < c → record-at after i ≡ record-at m i
+
 -- where table and sheet are as they were
-pub same-confined : (c : ℕ) (m after : Lent) → after .table ≡ m .table → after .sheet ≡ m .sheet → Confined c m after
+pub same-bounded : (c : ℕ) (m after : Lent) → after .table ≡ m .table → after .sheet ≡ m .sheet → Bounded c m after
 unfolding table-byte record-at
-same-confined c m after tables sheets =
+same-bounded c m after tables sheets =
     record {
       permissions = λ p d l e. rw tables at e;
       made = λ i live low. rw sheets;
@@ -35,14 +40,14 @@ same-confined c m after tables sheets =
     }
 
 -- and so where nothing happens
-pub confined-here : (c : ℕ) (m : Lent) → Confined c m m
-confined-here c m = same-confined c m m refl refl
+pub bounded-here : (c : ℕ) (m : Lent) → Bounded c m m
+bounded-here c m = same-bounded c m m refl refl
 
 module _ {c : ℕ} {m mid after : Lent} where
   -- two in a row
-  pub confined-twice : Confined c m mid → Confined c mid after → Confined c m after
+  pub bounded-twice : Bounded c m mid → Bounded c mid after → Bounded c m after
   unfolding vcpu
-  confined-twice h k =
+  bounded-twice h k =
       record {
         permissions = λ p d l e. h .permissions p d l (k .permissions p d l e);
         made = λ i live low. let same = k .made i live low in same ∙ h .made i (rw (← same) live) (rw (← same) low);
@@ -50,10 +55,10 @@ module _ {c : ℕ} {m mid after : Lent} where
       }
 
 -- the table of one and the sheet of another
-pub joined-confined : (c : ℕ) (m tables sheets after : Lent) → Confined c m tables → Confined c m sheets → after .table ≡ tables .table
-    → after .sheet ≡ sheets .sheet → Confined c m after
+pub joined-bounded : (c : ℕ) (m tables sheets after : Lent) → Bounded c m tables → Bounded c m sheets → after .table ≡ tables .table
+    → after .sheet ≡ sheets .sheet → Bounded c m after
 unfolding table-byte record-at vcpu
-joined-confined c m tables sheets after h k e f =
+joined-bounded c m tables sheets after h k e f =
     record {
       permissions = λ p d l t. h .permissions p d l (rw e at t);
       made = λ i live low. rw f (k .made i (rw f at live) (rw f at low));
@@ -61,11 +66,11 @@ joined-confined c m tables sheets after h k e f =
     }
 
 -- an effect on each page of a list
-pub each-confined : (c : ℕ) (effect : ℕ → Lent → Lent) → ((p : ℕ) (m : Lent) → Confined c m (effect p m)) → (ps : List ℕ) (m : Lent)
-    → Confined c m (each effect ps m)
+pub each-bounded : (c : ℕ) (effect : ℕ → Lent → Lent) → ((p : ℕ) (m : Lent) → Bounded c m (effect p m)) → (ps : List ℕ) (m : Lent)
+    → Bounded c m (each effect ps m)
 unfolding each
-each-confined c effect one [] m = confined-here c m
-each-confined c effect one (p ∷ ps) m = confined-twice (one p m) (each-confined c effect one ps (effect p m))
+each-bounded c effect one [] m = bounded-here c m
+each-bounded c effect one (p ∷ ps) m = bounded-twice (one p m) (each-bounded c effect one ps (effect p m))
 
 -- ---- a table byte
 
@@ -111,10 +116,10 @@ changed f q m p =
     (λ u. inr (rw (set-out (m .table) q (f (getD (m .table) q 0)) (ltb-false _ _ u)))))
     (λ t. inr (getD-set-other (m .table) q p _ 0 (eqb-false p q t)))
 
--- so a modest change is confined
-pub change-confined : (c : ℕ) (f : ℕ → ℕ) (q : ℕ) (m : Lent) → Modest c f → Confined c m (change f q m)
+-- so a modest change is bounded
+pub change-bounded : (c : ℕ) (f : ℕ → ℕ) (q : ℕ) (m : Lent) → Modest c f → Bounded c m (change f q m)
 unfolding change put record-at
-change-confined c f q m modest =
+change-bounded c f q m modest =
     record { permissions = λ p d l. given p d l (changed f q m p); made = λ i live low. refl; deleted = λ i live low. refl }
   where
     given : (p d : ℕ) → c < d → (table-byte (change f q m) p ≡ f (table-byte m p)) ⊎ (table-byte (change f q m) p ≡ table-byte m p)
@@ -123,16 +128,16 @@ change-confined c f q m modest =
     given p d l (inr h) e = rw h at e
 
 -- three of them, as Create and Delete change them
-pub three-confined : (c : ℕ) (f g k : ℕ → ℕ) (x y z : ℕ) (t : Bool) (m : Lent) → Modest c f → Modest c g → Modest c k
-    → Confined c m (three-changed f g k x y z t m)
-three-confined c f g k x y z t m on-x on-y on-z =
-    let two = confined-twice (change-confined c f x m on-x) (change-confined c g y (change f x m) on-y) in
-    on-test (Confined c m) t _ _ (λ e. confined-twice two (change-confined c k z (change g y (change f x m)) on-z)) (λ e. two)
+pub three-bounded : (c : ℕ) (f g k : ℕ → ℕ) (x y z : ℕ) (t : Bool) (m : Lent) → Modest c f → Modest c g → Modest c k
+    → Bounded c m (three-changed f g k x y z t m)
+three-bounded c f g k x y z t m on-x on-y on-z =
+    let two = bounded-twice (change-bounded c f x m on-x) (change-bounded c g y (change f x m) on-y) in
+    on-test (Bounded c m) t _ _ (λ e. bounded-twice two (change-bounded c k z (change g y (change f x m)) on-z)) (λ e. two)
 
 -- ---- a record
 
 -- a record after one was amended is the one, as amended, or as it was
-amended : (f : List ℕ → List ℕ) (i : ℕ) (m : Lent) (j : ℕ)
+pub amended : (f : List ℕ → List ℕ) (i : ℕ) (m : Lent) (j : ℕ)
     → ((i ≡ j) × (record-at (amend f i m) j ≡ f (record-at m i))) ⊎ (record-at (amend f i m) j ≡ record-at m j)
 unfolding amend record-at
 amended f i m j =
@@ -161,9 +166,9 @@ module _ (c : ℕ) (f : List ℕ → List ℕ) (i : ℕ) (m : Lent) (new : is-li
   deleted-none j (inr same) live low = same
 
   -- no record of a VMPL below c comes or goes by it
-  pub amend-confined : Confined c m now
+  pub amend-bounded : Bounded c m now
   unfolding amend table-byte
-  amend-confined =
+  amend-bounded =
       record {
         permissions = λ p d l e. e;
         made = λ j. made-none j (amended f i m j);
