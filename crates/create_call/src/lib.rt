@@ -111,11 +111,19 @@ fn unfit_vcpu(memory: &[u8], sheet: &[u8], caller: usize, vmsa: usize, apic: u32
     apic_in_use(sheet, apic)
 }
 
+// Records 4 to 15 need a pool page.
+fn needs_page(i: usize) -> bool
+    ensures { λ r. ⌜ r ≡ needs-page i ⌝ }
+{
+    i >= 4
+}
+
 // Record i needs a pool page, and none is free.
 fn lacks_page(table: &[u8], i: usize) -> bool
     ensures { λ r. ⌜ r ≡ (needs-page i && not (exists is-free (now (table .entry)))) ⌝ }
 {
-    if i < 4 {
+    let needed = needs_page(i);
+    if !needed {
         return false;
     }
     let free = pages::pool::any_free(table);
@@ -126,7 +134,8 @@ fn lacks_page(table: &[u8], i: usize) -> bool
 fn pool_page(table: &[u8], i: usize) -> usize
     ensures { λ r. ⌜ r ≡ cond (needs-page i) (lowest is-free (now (table .entry))) 0 ⌝ }
 {
-    if i < 4 {
+    let needed = needs_page(i);
+    if !needed {
         return 0;
     }
     pages::pool::lowest_free(table)
@@ -135,7 +144,7 @@ fn pool_page(table: &[u8], i: usize) -> usize
 fn holding_of(i: usize) -> u8
     ensures { λ r. ⌜ r ≡ cond (needs-page i) 1 0 ⌝ }
 {
-    if i < 4 { 0 } else { 1 }
+    if needs_page(i) { 1 } else { 0 }
 }
 
 // The pool page of record i, if it needs one, is in use.
@@ -145,7 +154,7 @@ fn mark_pool(table: &mut [u8], i: usize, pool: usize)
         now (table .exit)
         ≡ cond (needs-page i) (set (now (table .entry)) pool (own pool-in-use (getD (now (table .entry)) pool 0))) (now (table .entry)) ⌝ }
 {
-    if i >= 4 {
+    if needs_page(i) {
         table[pool] = pages::byte::owned(4, table[pool]);
     }
 }

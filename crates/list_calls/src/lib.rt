@@ -78,9 +78,9 @@ fn run(
     let page = (rcx / 4096) as usize;
     let offset = (rcx % 4096) as usize;
     let vmpl = parts::byte(sheet, sheet::RECORD_SIZE, caller, sheet::VMPL);
+    let end = start + budget;
     let mut k = start;
-    let mut todo = budget;
-    while todo > 0 {
+    while k < end {
         let e = parts::number8(memory, 4096, page, offset + 8 + 8 * k);
         let entry = entries::reader::read(table, call, page, e);
         let Entry::Reads { first, count, wish } = entry else {
@@ -89,7 +89,6 @@ fn run(
         };
         effects::carry_out_all(memory, table, wish, vmpl, first, count);
         k += 1;
-        todo -= 1;
     }
     stop(memory, table, sheet, call, caller, rcx, k)
 }

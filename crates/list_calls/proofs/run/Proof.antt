@@ -11,9 +11,9 @@ use lib.Dec.{lit<, lit≤}
 use lib.ListN.{length}
 use denote.Ref.{now}
 use borrow.Author.Needs.{needs}
-use Rattle.rules.specs.Words.{page-size, most-pages, record-size, records}
+use Rattle.rules.specs.Words.{page-size, most-pages, record-size, records, little}
 use Rattle.rules.specs.Answers.{entry-code}
-use Rattle.rules.specs.Machine.{page-of, offset-of, page-at, write, with-memory, fields, record-at, vcpu}
+use Rattle.rules.specs.Machine.{page-of, offset-of, page-at, written, write, with-memory, fields, record-at, vcpu}
 use Rattle.rules.specs.Lists.{in-list, list-entry, store-index, carry-out-all}
 use Rattle.rules.specs.Lists
 use Rattle.rules.specs.Flat.{Buffers, parts, parted, memory-sized}
@@ -30,12 +30,12 @@ abbrev buffers : List ℕ → List ℕ → List ℕ → Buffers
 buffers memory table sheet = record { memory = memory; table = table; sheet = sheet }
 
 abbrev Inv-loop : tie.InvT-loop
-Inv-loop memory₀ table₀ sheet call caller rcx start budget page offset vmpl k₀ todo₀ memory table k todo =
-    (Lists.run call caller rcx budget start (parted (buffers memory₀ table₀ sheet)) ≡ Lists.run call caller rcx todo k (parted (buffers memory table sheet)))
-    × (length memory ≡ length memory₀) × (length table ≡ length table₀) × (k + todo ≡ start + budget)
+Inv-loop memory₀ table₀ sheet call caller rcx start budget page offset vmpl end k₀ memory table k =
+    (Lists.run call caller rcx budget start (parted (buffers memory₀ table₀ sheet)) ≡ Lists.run call caller rcx (end - k) k (parted (buffers memory table sheet)))
+    × (length memory ≡ length memory₀) × (length table ≡ length table₀) × (k ≤ end)
 
 abbrev μ-loop : tie.MeasureT-loop
-μ-loop memory₀ table₀ sheet call caller rcx start budget page offset vmpl k₀ todo₀ memory table k todo = todo
+μ-loop memory₀ table₀ sheet call caller rcx start budget page offset vmpl end k₀ memory table k = end - k
 
 byte-requires : tie.Need-byte-requires Inv-loop μ-loop
 unfolding record-size records
@@ -46,8 +46,14 @@ byte-requires c κs =
     let t = start .pre .tested in
     record { some = lit< tt; below = omega (arith, rows-tested b caller t, caller-below b caller t); within = lit≤ tt }
 
+add-end : tie.Need-add-end Inv-loop μ-loop
+add-end c = omega arith
+
 loop-holds : tie.Need-loop-holds Inv-loop μ-loop
-loop-holds c = (refl, refl, refl, refl)
+loop-holds c =
+    let a = c .before .before .before .before .args in
+    let m = parted (buffers (now (a .memory)) (now (a .table)) (now (a .sheet))) in
+    (ap (λ (todo : ℕ). Lists.run (a .call) (a .caller) (a .rcx) todo (a .start) m) {x = a .budget} (omega arith), refl, refl, omega arith)
 
 add-number8 : tie.Need-add-number8 Inv-loop μ-loop
 add-number8 c = omega (arith, c .before .before .before .before .before .before .before .pre .within, c .before .before .loop .inv .3, c .before .loop-test .taken)
@@ -120,12 +126,14 @@ returns c =
     let l = c .before .before .before .before .before .before .before .before .before .before .before .before .loop in
     let a = start .args in
     let m = parted (buffers (l .memory) (l .table) (b .sheet)) in
+    let todo = a .start + a .budget - l .k in
     let e : list-entry (l .k) (start .args .rcx) m ≡ c .before .before .before .before .before .before .before .before .before .number8 .result = rw (← add-assoc (start .args .rcx % 4096) 8 (8 * l .k)) (sym (c .before .before .before .before .before .before .before .before .before .number8 .ensures)) in
     let told = c .before .before .before .before .before .enum-told .given in
     let refused = ap (λ (x : ℕ). read-at (a .call) (a .rcx / 4096) x (l .table)) e ∙ sym (c .before .before .before .before .before .before .before .read .ensures) ∙ told .1 in
     let code = c .refusal .ensures ∙ ap entry-code (told .1) in
-    l .inv .0 ∙ run-refused (a .call) caller (a .rcx) (l .todo) (l .k) m (c .before .before .before .before .before .before .before .before .before .before .before .loop-test .taken) (told .0 .0) refused
-    ∙ (λ i. record { answer = sym code i; after = record { memory = sym (c .before .before .before .put-number2 .ensures) i; table = l .table; sheet = parts record-size (b .sheet) } })
+    let stored = c .before .before .before .put-number2 .ensures ∙ ap (λ (x : ℕ). written (page-of (a .rcx)) (offset-of (a .rcx) + 2) (little 2 x) (m .memory)) {y = l .k} (omega arith) in
+    l .inv .0 ∙ run-refused (a .call) caller (a .rcx) todo (l .k) m (omega (arith, c .before .before .before .before .before .before .before .before .before .before .before .loop-test .taken)) (told .0 .0) refused
+    ∙ (λ i. record { answer = sym code i; after = record { memory = sym stored i; table = l .table; sheet = parts record-size (b .sheet) } })
 
 carry-out-all-requires : tie.Need-carry-out-all-requires Inv-loop μ-loop
 carry-out-all-requires c κs =
@@ -140,9 +148,6 @@ carry-out-all-requires c κs =
 add-k : tie.Need-add-k Inv-loop μ-loop
 add-k c = omega (arith, c .before .before .before .before .before .before .before .before .before .before .before .before .before .before .before .before .before .before .before .before .pre .within, c .before .before .before .before .before .before .before .before .before .before .before .before .before .before .before .loop .inv .3, c .before .before .before .before .before .before .before .before .before .before .before .before .before .before .loop-test .taken)
 
-sub-todo : tie.Need-sub-todo Inv-loop μ-loop
-sub-todo c = omega (arith, c .before .before .before .before .before .before .before .before .before .before .before .before .before .before .before .before .before .before .before .before .pre .within, c .before .before .before .before .before .before .before .before .before .before .before .before .before .before .before .loop .inv .3, c .before .before .before .before .before .before .before .before .before .before .before .before .before .before .loop-test .taken)
-
 loop-less : tie.Need-loop-less Inv-loop μ-loop
 loop-less c = omega (arith, c .before .before .before .before .before .before .before .before .before .before .before .before .before .before .before .before .before .before .before .before .pre .within, c .before .before .before .before .before .before .before .before .before .before .before .before .before .before .before .loop .inv .3, c .before .before .before .before .before .before .before .before .before .before .before .before .before .before .loop-test .taken)
 
@@ -156,14 +161,16 @@ loop-again c =
     let l = c .before .before .before .before .before .before .before .before .before .before .before .before .before .before .before .loop in
     let a = start .args in
     let m = parted (buffers (l .memory) (l .table) (b .sheet)) in
+    let todo = a .start + a .budget - l .k in
     let e : list-entry (l .k) (start .args .rcx) m ≡ c .before .before .before .before .before .before .before .before .before .before .before .before .number8 .result = rw (← add-assoc (start .args .rcx % 4096) 8 (8 * l .k)) (sym (c .before .before .before .before .before .before .before .before .before .before .before .before .number8 .ensures)) in
     let v = c .before .before .before .before .before .before .before .before .entry .given .0 in
     let reads = ap (λ (x : ℕ). read-at (a .call) (a .rcx / 4096) x (l .table)) e ∙ sym (c .before .before .before .before .before .before .before .before .before .before .read .ensures) ∙ c .before .before .before .before .before .before .before .before .entry .given .1 in
     let done = c .before .before .before .before .carry-out-all .ensures in
     let after = all-after (v .1 .1 .0) (c .before .before .before .before .before .before .before .before .before .before .before .before .before .before .before .before .byte .result) (v .0) (v .1 .0) m
     ∙ (λ i. record { memory = done i .memory; table = done i .table; sheet = parts record-size (b .sheet) }) in
-    let on = run-on (a .call) caller (a .rcx) (l .todo) (l .k) m (c .before .before .before .before .before .before .before .before .before .before .before .before .before .before .loop-test .taken) (v .0) (v .1 .0) (v .1 .1 .0) reads in
-    (l .inv .0 ∙ rw (← c .before .before .before .before .before .before .before .before .before .before .before .before .before .before .before .before .byte .ensures, after, ← add-one (l .k)) at on, c .before .before .before .before .carry-out-all .kept .0 ∙ l .inv .1, c .before .before .before .before .carry-out-all .kept .1 .0 ∙ l .inv .2, omega arith)
+    let fewer : todo - 1 ≡ a .start + a .budget - (l .k + 1) = omega arith in
+    let on = run-on (a .call) caller (a .rcx) todo (l .k) m (omega (arith, c .before .before .before .before .before .before .before .before .before .before .before .before .before .before .loop-test .taken)) (v .0) (v .1 .0) (v .1 .1 .0) reads in
+    (l .inv .0 ∙ rw (← c .before .before .before .before .before .before .before .before .before .before .before .before .before .before .before .before .byte .ensures, after, ← add-one (l .k), fewer) at on, c .before .before .before .before .carry-out-all .kept .0 ∙ l .inv .1, c .before .before .before .before .carry-out-all .kept .1 .0 ∙ l .inv .2, omega arith)
 
 stop-requires : tie.Need-stop-requires Inv-loop μ-loop
 stop-requires c κs =
@@ -187,7 +194,8 @@ same-length-4 c = c .before .before .before .before .before .before .loop .inv .
 returns-2 : tie.Need-returns-2 Inv-loop μ-loop
 returns-2 c =
     let l = c .before .before .before .before .before .before .loop in
-    let none : l .todo ≡ 0 = omega arith in
+    let a = c .before .before .before .before .before .before .before .before .before .before .before .args in
+    let none : a .start + a .budget - l .k ≡ 0 = omega arith in
     rw none at (l .inv .0) ∙ c .before .before .stop .ensures
 
 pub run-spec : {M : Type 1} → statement M
@@ -197,6 +205,7 @@ run-spec =
     Inv-loop
     μ-loop
     byte-requires
+    add-end
     loop-holds
     add-number8
     mul-number8
@@ -214,7 +223,6 @@ run-spec =
     returns
     carry-out-all-requires
     add-k
-    sub-todo
     loop-less
     loop-again
     stop-requires

@@ -1,17 +1,29 @@
 -- `entries::reader::read_pvalidate` meets its contract: how many of the covered pages are valid tells whether all are, and whether none is.
 -- Assumes nothing.
 use mathlib.Core.Path.{_≡_, sym, _∙_, ap, ap₂}
+use mathlib.Core.Bool.{true, false}
+use mathlib.Core.List.{List}
 use Prim.Native.Nat.{ℕ}
-use borrow.Author.Tests.{lt-leb, le-leb, lt-ltb, le-ltb, eq-eqb, ne-eqb, not-true, not-false}
 use lib.Dec.{eqb}
 use denote.Ref.{now}
 use Rattle.rules.specs.Words.{range, every, count}
 use Rattle.laws.proofs.Counts.{every-count, every-not}
-use Rattle.laws.proofs.Ranges.{length-range}
-use Rattle.entries.specs.Reading.{valid-at, invalid-at}
+use Rattle.laws.proofs.Ranges.{by-test, length-range}
+use Rattle.entries.specs.Reading.{valid-at, invalid-at, judged}
 use borrow.Author.Needs.{needs}
 use Rattle.entries.proofs.reader.read_pvalidate.Statement.{statement}
 use Rattle.entries.proofs.reader.read_pvalidate.Tie as tie
+
+-- what the count of valid pages tells
+module _ (table : List ℕ) (first n found : ℕ) (counted : found ≡ count (valid-at table) (range first n)) where
+  all : every (valid-at table) (range first n) ≡ eqb found n
+  all = every-count (valid-at table) (range first n) ∙ ap₂ eqb (sym counted) (length-range first n)
+
+  none : every (invalid-at table) (range first n) ≡ eqb found 0
+  none = every-not (valid-at table) (range first n) ∙ ap (λ (k : ℕ). eqb k 0) (sym counted)
+
+  by-count : (e : ℕ) → judged (every (valid-at table) (range first n)) (every (invalid-at table) (range first n)) e first n ≡ judged (eqb found n) (eqb found 0) e first n
+  by-count e = rw (all, none)
 
 count-valid-requires : tie.Need-count-valid-requires
 count-valid-requires c κs = search needs
@@ -22,12 +34,11 @@ is-mixed-requires c κs = search needs
 returns : tie.Need-returns
 returns c =
     let a = c .before .before .before .before .args in
-    let table = now (a .table) in
-    let all : every (valid-at table) (range (a .first) (a .n)) ≡ eqb (c .before .before .count-valid .result) (a .n) =
-    every-count (valid-at table) (range (a .first) (a .n)) ∙ ap₂ eqb (sym (c .before .before .count-valid .ensures)) (length-range (a .first) (a .n)) in
-    let none : every (invalid-at table) (range (a .first) (a .n)) ≡ eqb (c .before .before .count-valid .result) 0 =
-    every-not (valid-at table) (range (a .first) (a .n)) ∙ ap (λ (k : ℕ). eqb k 0) (sym (c .before .before .count-valid .ensures)) in
-    rw (all, none, ← c .before .is-mixed .ensures, c .if1 .taken)
+    let found = c .before .before .count-valid in
+    let said = c .before .is-mixed in
+    let taken = c .if1 .taken in
+    let mixed : said .result ≡ true = by-test (said .result) (λ t. t) (λ t. cc taken) in
+    rw (by-count (now (a .table)) (a .first) (a .n) (found .result) (found .ensures) (a .e), ← said .ensures, mixed)
 
 is-unchanged-requires : tie.Need-is-unchanged-requires
 is-unchanged-requires c κs = search needs
@@ -35,12 +46,11 @@ is-unchanged-requires c κs = search needs
 returns-2 : tie.Need-returns-2
 returns-2 c =
     let a = c .before .before .before .before .before .before .args in
-    let table = now (a .table) in
-    let all : every (valid-at table) (range (a .first) (a .n)) ≡ eqb (c .before .before .before .before .count-valid .result) (a .n) =
-    every-count (valid-at table) (range (a .first) (a .n)) ∙ ap₂ eqb (sym (c .before .before .before .before .count-valid .ensures)) (length-range (a .first) (a .n)) in
-    let none : every (invalid-at table) (range (a .first) (a .n)) ≡ eqb (c .before .before .before .before .count-valid .result) 0 =
-    every-not (valid-at table) (range (a .first) (a .n)) ∙ ap (λ (k : ℕ). eqb k 0) (sym (c .before .before .before .before .count-valid .ensures)) in
-    rw (all, none, ← c .before .before .before .is-mixed .ensures, c .before .before .if1 .left, ← c .before .is-unchanged .ensures, c .if2 .taken)
+    let found = c .before .before .before .before .count-valid in
+    let said = c .before .before .before .is-mixed in
+    let left = c .before .before .if1 .left in
+    let unmixed : said .result ≡ false = by-test (said .result) (λ t. cc left) (λ t. t) in
+    rw (by-count (now (a .table)) (a .first) (a .n) (found .result) (found .ensures) (a .e), ← said .ensures, unmixed, ← c .before .is-unchanged .ensures, c .if2 .taken)
 
 wish-of-requires : tie.Need-wish-of-requires
 wish-of-requires c κs = search needs
@@ -48,12 +58,11 @@ wish-of-requires c κs = search needs
 returns-3 : tie.Need-returns-3
 returns-3 c =
     let a = c .before .before .before .before .before .before .before .args in
-    let table = now (a .table) in
-    let all : every (valid-at table) (range (a .first) (a .n)) ≡ eqb (c .before .before .before .before .before .count-valid .result) (a .n) =
-    every-count (valid-at table) (range (a .first) (a .n)) ∙ ap₂ eqb (sym (c .before .before .before .before .before .count-valid .ensures)) (length-range (a .first) (a .n)) in
-    let none : every (invalid-at table) (range (a .first) (a .n)) ≡ eqb (c .before .before .before .before .before .count-valid .result) 0 =
-    every-not (valid-at table) (range (a .first) (a .n)) ∙ ap (λ (k : ℕ). eqb k 0) (sym (c .before .before .before .before .before .count-valid .ensures)) in
-    rw (all, none, ← c .before .before .before .before .is-mixed .ensures, c .before .before .before .if1 .left, ← c .before .before .is-unchanged .ensures, c .before .if2 .left, ← c .wish-of .ensures)
+    let found = c .before .before .before .before .before .count-valid in
+    let said = c .before .before .before .before .is-mixed in
+    let left = c .before .before .before .if1 .left in
+    let unmixed : said .result ≡ false = by-test (said .result) (λ t. cc left) (λ t. t) in
+    rw (by-count (now (a .table)) (a .first) (a .n) (found .result) (found .ensures) (a .e), ← said .ensures, unmixed, ← c .before .before .is-unchanged .ensures, c .before .if2 .left, ← c .wish-of .ensures)
 
 pub read-pvalidate-spec : {M : Type 1} → statement M
 read-pvalidate-spec =
