@@ -51,7 +51,8 @@ loop-again c =
     let table = now (c .before .before .before .before .before .before .args .table) in
     let more : exists is-free (take (suc (l .p)) table) ≡ (exists is-free (take (l .p) table) || is-free (getD table (l .p) 0)) =
     ap (exists is-free) (take-suc table (l .p) 0 (omega arith)) ∙ exists-append is-free (take (l .p) table) _ ∙ rw (or-none (is-free (getD table (l .p) 0))) in
-    (c .either .ensures ∙ rw (l .inv .0, c .before .is-free .ensures, add-one) (sym more), omega arith)
+    let told = ap (λ (passed : Bool). passed || c .before .is-free .result) (l .inv .0) in
+    (c .either .ensures ∙ told ∙ rw (c .before .is-free .ensures, add-one) (sym more), omega arith)
 
 returns : tie.Need-returns Inv-loop μ-loop
 returns c =

@@ -1,5 +1,6 @@
 -- `sheet::shape::bad_record` meets its contract: each return follows the definition's tests in their order.
 -- Assumes nothing.
+use native.Mathlib.Omega.{arith}
 use lib.Dec.{lit≤}
 use borrow.Author.Tests.{lt-leb, le-leb, lt-ltb, le-ltb, eq-eqb, ne-eqb}
 use Rattle.rules.specs.Words.{record-size}
@@ -23,7 +24,7 @@ byte-requires-2 c κs = at (c .before .before .before .pre) _ _ (lit≤ tt)
 
 returns-2 : tie.Need-returns-2
 unfolding bad-record is-live fields record-size
-returns-2 c = rw (← c .before .before .before .byte .ensures, ← c .before .byte2 .ensures, le-ltb 1 _ (c .before .before .if1 .left), lt-ltb 1 _ (c .if2 .taken))
+returns-2 c = rw (← c .before .before .before .byte .ensures, ← c .before .byte2 .ensures, le-ltb 1 _ (c .before .before .if1 .left), lt-ltb 1 (c .before .byte2 .result) (omega (arith, c .if2 .taken)))
 
 byte-requires-3 : tie.Need-byte-requires-3
 byte-requires-3 c κs = at (c .before .before .before .before .before .pre) _ _ (lit≤ tt)
@@ -36,7 +37,7 @@ returns-3 c =
       ← c .before .before .before .byte2 .ensures,
       ← c .before .byte3 .ensures,
       le-ltb 1 _ (c .before .before .before .before .if1 .left),
-      le-ltb 1 _ (c .before .before .if2 .left),
+      le-ltb 1 (c .before .before .before .byte2 .result) (omega (arith, c .before .before .if2 .left)),
       lt-ltb 1 _ (c .if3 .taken),
     )
 
@@ -48,7 +49,7 @@ returns-4 c =
       ← c .before .before .before .before .byte2 .ensures,
       ← c .before .before .byte3 .ensures,
       le-ltb 1 _ (c .before .before .before .before .before .if1 .left),
-      le-ltb 1 _ (c .before .before .before .if2 .left),
+      le-ltb 1 (c .before .before .before .before .byte2 .result) (omega (arith, c .before .before .before .if2 .left)),
       le-ltb 1 _ (c .before .if3 .left),
       ne-eqb _ 1 (c .if4 .taken),
     )
@@ -64,7 +65,7 @@ returns-5 c =
       ← c .before .before .before .before .before .byte2 .ensures,
       ← c .before .before .before .byte3 .ensures,
       le-ltb 1 _ (c .before .before .before .before .before .before .if1 .left),
-      le-ltb 1 _ (c .before .before .before .before .if2 .left),
+      le-ltb 1 (c .before .before .before .before .before .byte2 .result) (omega (arith, c .before .before .before .before .if2 .left)),
       le-ltb 1 _ (c .before .before .if3 .left),
       eq-eqb _ 1 (c .before .if4 .left),
     )
