@@ -1,6 +1,9 @@
 -- `call::call` meets its contract: the outcomes in the definition's order, and the buffers that the machine is joined to.
 -- Assumes nothing.
 use mathlib.Core.Path.{_≡_, sym, _∙_, ap}
+use Prim.Native.Nat.{_*_}
+use native.Mathlib.Omega.{arith}
+use lib.ListN.{length}
 use borrow.Author.Tests.{eq-eqb, ne-eqb, not-true, not-false}
 use borrow.Author.Needs.{needs}
 use denote.Ref.{now}
@@ -30,7 +33,10 @@ left-requires-2 c κs = search needs
 
 returns-2 : tie.Need-returns-2
 unfolding Call-promise well-sized memory-sized sheet-sized record-size records
-returns-2 c = rw (c .left2 .ensures) (call-unsized _ _ _ (rw (sym (c .before .before .before .fits2 .ensures) ∙ not-false _ (c .before .before .if1 .left), ne-eqb _ _ (c .before .if2 .taken))))
+returns-2 c =
+    let sheet = now (c .before .before .before .before .before .before .before .args .sheet) in
+    let short = ne-eqb (length sheet) (record-size * records) (omega (arith, c .before .if2 .taken)) in
+    rw (c .left2 .ensures) (call-unsized _ _ _ (rw (sym (c .before .before .before .fits2 .ensures) ∙ not-false _ (c .before .before .if1 .left), short)))
 
 bad-sheet-requires : tie.Need-bad-sheet-requires
 unfolding record-size records
@@ -99,7 +105,7 @@ returns-5 c =
     let b : Buffers = record { memory = now (a .memory); table = now (a .table); sheet = now (a .sheet) } in
     let sized = well-sized-by b (sym (c .before .before .before .before .before .before .before .before .before .before .before .before .before .fits2 .ensures) ∙ not-false _ (c .before .before .before .before .before .before .before .before .before .before .before .before .if1 .left)) (c .before .before .before .before .before .before .before .before .before .before .before .if2 .left) in
     let good = sym (c .before .before .before .before .before .before .before .before .before .bad-sheet .ensures) ∙ c .before .before .before .before .before .before .before .before .if3 .left in
-    rw (c .left5 .ensures) (call-none _ _ b sized good (rw (← c .before .before .before .before .pending .ensures, ne-eqb _ _ (c .before .before .before .if4 .left), ne-eqb _ _ (c .before .if5 .taken))))
+    rw (c .left5 .ensures) (call-none _ _ b sized good (rw (← c .before .before .before .before .pending .ensures, ne-eqb _ _ (c .before .before .before .if4 .left), ne-eqb (a .g .reason) 0x403 (omega (arith, c .before .if5 .taken)))))
 
 handle-requires : tie.Need-handle-requires
 unfolding bad-machine N parted
@@ -136,7 +142,7 @@ returns-6 c =
     let sized = well-sized-by b (sym (c .before .before .before .before .before .before .before .before .before .before .before .before .before .before .before .before .before .before .before .before .before .before .before .before .before .before .before .before .fits2 .ensures) ∙ not-false _ (c .before .before .before .before .before .before .before .before .before .before .before .before .before .before .before .before .before .before .before .before .before .before .before .before .before .before .before .if1 .left)) (c .before .before .before .before .before .before .before .before .before .before .before .before .before .before .before .before .before .before .before .before .before .before .before .before .before .before .if2 .left) in
     let good = sym (c .before .before .before .before .before .before .before .before .before .before .before .before .before .before .before .before .before .before .before .before .before .before .before .before .bad-sheet .ensures) ∙ c .before .before .before .before .before .before .before .before .before .before .before .before .before .before .before .before .before .before .before .before .before .before .before .if3 .left in
     let kept = c .before .before .before .before .before .before .before .before .before .before .before .before .handle .kept in
-    call-ended _ _ b sized good (rw (← c .before .before .before .before .before .before .before .before .before .before .before .before .before .before .before .before .before .before .before .pending .ensures, ne-eqb _ _ (c .before .before .before .before .before .before .before .before .before .before .before .before .before .before .before .before .before .before .if4 .left), eq-eqb _ _ (c .before .before .before .before .before .before .before .before .before .before .before .before .before .before .before .before .if5 .left))) _ (c .before .before .before .before .before .before .before .before .before .before .before .before .handle .ensures) _ _ _ (same-sizes b _ (c .before .before .finish .kept .0 ∙ kept .0) (kept .1 .0) (kept .1 .1 .0) ∙ sized) (c .before .before .finish .ensures)
+    call-ended _ _ b sized good (rw (← c .before .before .before .before .before .before .before .before .before .before .before .before .before .before .before .before .before .before .before .pending .ensures, ne-eqb _ _ (c .before .before .before .before .before .before .before .before .before .before .before .before .before .before .before .before .before .before .if4 .left), eq-eqb (a .g .reason) 0x403 (omega (arith, c .before .before .before .before .before .before .before .before .before .before .before .before .before .before .before .before .if5 .left)))) _ (c .before .before .before .before .before .before .before .before .before .before .before .before .handle .ensures) _ _ _ (same-sizes b _ (c .before .before .finish .kept .0 ∙ kept .0) (kept .1 .0) (kept .1 .1 .0) ∙ sized) (c .before .before .finish .ensures)
 
 pub call-spec : {M : Type 1} → statement M
 call-spec =

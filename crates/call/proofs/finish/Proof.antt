@@ -1,8 +1,11 @@
 -- `call::finish` meets its contract: gone where the record is live no more, else handled, and the last writes in their order.
 -- Assumes nothing.
+use mathlib.Core.Path.{_≡_}
+use native.Mathlib.Omega.{arith}
 use borrow.Author.Tests.{eq-eqb, ne-eqb}
 use lib.Dec.{lit≤}
 use Rattle.rules.specs.Words.{records, record-size}
+use Rattle.rules.specs.Answers.{code-number}
 use Rattle.rules.specs.Machine.{fields, record-at, is-live, with-lent}
 use Rattle.rules.specs.Call.{finish, with-rax, with-rcx}
 use Rattle.rules.specs.Flat.{parted}
@@ -23,7 +26,7 @@ same-length c = search needs
 
 returns : tie.Need-returns
 unfolding finish is-live record-at fields parted record-size with-lent
-returns c = rw (← c .before .before .before .before .before .byte .ensures, ne-eqb _ _ (c .before .before .before .before .if1 .taken), c .before .before .set-flag .ensures)
+returns c = rw (← c .before .before .before .before .before .byte .ensures, ne-eqb (c .before .before .before .before .before .byte .result) 1 (omega (arith, c .before .before .before .before .if1 .taken)), c .before .before .set-flag .ensures)
 
 clear-pending-requires : tie.Need-clear-pending-requires
 clear-pending-requires c κs = search needs
@@ -39,7 +42,17 @@ same-length-2 c = search needs
 
 returns-2 : tie.Need-returns-2
 unfolding finish is-live record-at fields parted record-size with-lent with-rax with-rcx
-returns-2 c = rw (← c .before .before .before .before .before .before .before .before .before .before .byte .ensures, eq-eqb _ _ (c .before .before .before .before .before .before .before .before .before .if1 .left), c .before .before .before .before .before .before .before .clear-pending .ensures, c .before .before .before .set-flag2 .ensures, ← c .number-of .ensures)
+returns-2 c =
+    let live = c .before .before .before .before .before .before .before .before .before .before .byte in
+    let told = c .before .before .before .before .before .before .before .before .before .before .before .before .before .before .args .told in
+    let code : c .number-of .result ≡ code-number (told .code) = c .number-of .ensures in
+    rw (
+      ← live .ensures,
+      eq-eqb (live .result) 1 (omega (arith, c .before .before .before .before .before .before .before .before .before .if1 .left)),
+      c .before .before .before .before .before .before .before .clear-pending .ensures,
+      c .before .before .before .set-flag2 .ensures,
+      ← code,
+    )
 
 pub finish-spec : {M : Type 1} → statement M
 finish-spec =

@@ -1,6 +1,7 @@
 -- `create_call::unfit_vcpu` meets its contract: each return follows the definition's tests in their order.
 -- Assumes nothing.
 use mathlib.Core.Path.{sym, _∙_}
+use native.Mathlib.Omega.{arith}
 use lib.Dec.{lit<, lit≤}
 use borrow.Author.Tests.{lt-ltb, le-ltb, eq-eqb, ne-eqb}
 use Rattle.rules.specs.Words.{page-size, records, record-size}
@@ -27,7 +28,7 @@ byte-requires c κs = at (record { sized = c .before .before .before .before .be
 
 returns-2 : tie.Need-returns-2
 unfolding unfit-vcpu page-at startup vcpu record-at parted fields page-size record-size
-returns-2 c = rw (sym (c .before .before .before .before .is-unfit .ensures) ∙ c .before .before .before .if1 .left, ← c .before .before .vmpl-of .ensures, ← c .before .byte .ensures, lt-ltb _ _ (c .if2 .taken))
+returns-2 c = rw (sym (c .before .before .before .before .is-unfit .ensures) ∙ c .before .before .before .if1 .left, ← c .before .before .vmpl-of .ensures, ← c .before .byte .ensures, lt-ltb (c .before .before .vmpl-of .result) (c .before .byte .result) (omega (arith, c .if2 .taken)))
 
 features-of-requires : tie.Need-features-of-requires
 features-of-requires c κs = search needs
@@ -43,7 +44,7 @@ returns-3 c =
       sym (c .before .before .before .before .before .before .before .is-unfit .ensures) ∙ c .before .before .before .before .before .before .if1 .left,
       ← c .before .before .before .before .before .vmpl-of .ensures,
       ← c .before .before .before .before .byte .ensures,
-      le-ltb _ _ (c .before .before .before .if2 .left),
+      le-ltb (c .before .before .before .before .before .vmpl-of .result) (c .before .before .before .before .byte .result) (omega (arith, c .before .before .before .if2 .left)),
       ← c .before .before .features-of .ensures,
       ← c .before .number8 .ensures,
       ne-eqb _ _ (c .if3 .taken),
@@ -59,7 +60,7 @@ returns-4 c =
       sym (c .before .before .before .before .before .before .before .before .is-unfit .ensures) ∙ c .before .before .before .before .before .before .before .if1 .left,
       ← c .before .before .before .before .before .before .vmpl-of .ensures,
       ← c .before .before .before .before .before .byte .ensures,
-      le-ltb _ _ (c .before .before .before .before .if2 .left),
+      le-ltb (c .before .before .before .before .before .before .vmpl-of .result) (c .before .before .before .before .before .byte .result) (omega (arith, c .before .before .before .before .if2 .left)),
       ← c .before .before .before .features-of .ensures,
       ← c .before .before .number8 .ensures,
       eq-eqb _ _ (c .before .if3 .left),

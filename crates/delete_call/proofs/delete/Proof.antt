@@ -61,7 +61,7 @@ returns-2 c =
     let start = c .before .before .before .before .before .before .before in
     let b = buffers (now (start .args .memory)) (now (start .args .table)) (now (start .args .sheet)) in
     let rows = rows-tested b (start .args .caller) (start .pre) in
-    let found : c .before .named-by .result ≡ named-by (page-of (start .args .rcx)) (parted b) = c .before .named-by .ensures in
+    let found : c .before .named-by .result ≡ named-by (page-of (start .args .rcx)) (parted b) = c .before .named-by .ensures ∙ ap (λ (p : ℕ). named-by p (parted b)) (omega arith) in
     rw (eq-eqb _ 0 (c .before .before .before .if1 .left), ← found, rows, le-leb 16 _ (c .if2 .taken))
 
 same-length-2 : tie.Need-same-length-2
@@ -73,7 +73,7 @@ returns-3 c =
     let start = c .before .before .before .before .before .before .before .before in
     let b = buffers (now (start .args .memory)) (now (start .args .table)) (now (start .args .sheet)) in
     let rows = rows-tested b (start .args .caller) (start .pre) in
-    let found : c .before .before .named-by .result ≡ named-by (page-of (start .args .rcx)) (parted b) = c .before .before .named-by .ensures in
+    let found : c .before .before .named-by .result ≡ named-by (page-of (start .args .rcx)) (parted b) = c .before .before .named-by .ensures ∙ ap (λ (p : ℕ). named-by p (parted b)) (omega arith) in
     rw (eq-eqb _ 0 (c .before .before .before .before .if1 .left), ← found, rows, lt-leb 16 _ (c .before .if2 .left), eq-eqb _ 0 (c .if3 .taken))
 
 byte-requires : tie.Need-byte-requires
@@ -98,7 +98,7 @@ returns-4 c =
     let start = c .before .before .before .before .before .before .before .before .before .before .before .before .before in
     let b = buffers (now (start .args .memory)) (now (start .args .table)) (now (start .args .sheet)) in
     let rows = rows-tested b (start .args .caller) (start .pre) in
-    let found : c .before .before .before .before .before .before .before .named-by .result ≡ named-by (page-of (start .args .rcx)) (parted b) = c .before .before .before .before .before .before .before .named-by .ensures in
+    let found : c .before .before .before .before .before .before .before .named-by .result ≡ named-by (page-of (start .args .rcx)) (parted b) = c .before .before .before .before .before .before .before .named-by .ensures ∙ ap (λ (p : ℕ). named-by p (parted b)) (omega arith) in
     rw (eq-eqb _ 0 (c .before .before .before .before .before .before .before .before .before .if1 .left), ← found, rows, lt-leb 16 _ (c .before .before .before .before .before .before .if2 .left), ne-eqb _ 0 (c .before .before .before .before .before .if3 .left), ← c .before .before .before .byte .ensures, ← c .before .byte2 .ensures, lt-ltb _ _ (c .if4 .taken))
 
 in-use-requires : tie.Need-in-use-requires
@@ -117,7 +117,7 @@ returns-5 c =
     let start = c .before .before .before .before .before .before .before .before .before .before .before .before .before .before .before .before in
     let b = buffers (now (start .args .memory)) (now (start .args .table)) (now (start .args .sheet)) in
     let rows = rows-tested b (start .args .caller) (start .pre) in
-    let found : c .before .before .before .before .before .before .before .before .before .before .named-by .result ≡ named-by (page-of (start .args .rcx)) (parted b) = c .before .before .before .before .before .before .before .before .before .before .named-by .ensures in
+    let found : c .before .before .before .before .before .before .before .before .before .before .named-by .result ≡ named-by (page-of (start .args .rcx)) (parted b) = c .before .before .before .before .before .before .before .before .before .before .named-by .ensures ∙ ap (λ (p : ℕ). named-by p (parted b)) (omega arith) in
     rw (eq-eqb _ 0 (c .before .before .before .before .before .before .before .before .before .before .before .before .if1 .left), ← found, rows, lt-leb 16 _ (c .before .before .before .before .before .before .before .before .before .if2 .left), ne-eqb _ 0 (c .before .before .before .before .before .before .before .before .if3 .left), ← c .before .before .before .before .before .before .byte .ensures, ← c .before .before .before .before .byte2 .ensures, le-ltb _ _ (c .before .before .before .if4 .left), ← c .before .in-use .ensures, c .if5 .taken)
 
 deleted-requires : tie.Need-deleted-requires
@@ -125,7 +125,7 @@ unfolding named-by page-of page-size parted records
 deleted-requires c κs =
     let start = c .before .before .before .before .before .before .before .before .before .before .before .before .before .before .before .before .before .before .before in
     let b = buffers (now (start .args .memory)) (now (start .args .table)) (now (start .args .sheet)) in
-    let found : c .before .before .before .before .before .before .before .before .before .before .before .before .before .named-by .result ≡ named-by (page-of (start .args .rcx)) (parted b) = c .before .before .before .before .before .before .before .before .before .before .before .before .before .named-by .ensures in
+    let found : c .before .before .before .before .before .before .before .before .before .before .before .before .before .named-by .result ≡ named-by (page-of (start .args .rcx)) (parted b) = c .before .before .before .before .before .before .before .before .before .before .before .before .before .named-by .ensures ∙ ap (λ (p : ℕ). named-by p (parted b)) (omega arith) in
     cleared b (start .args .caller) (c .before .before .before .before .before .before .before .before .before .before .before .before .before .named-by .result) _ (start .pre) (c .before .before .before .before .before .before .before .before .before .before .before .before .if2 .left) found
 
 same-length-5 : tie.Need-same-length-5
@@ -143,7 +143,7 @@ returns-6 c =
     let start = c .before .before .before .before .before .before .before .before .before .before .before .before .before .before .before .before .before .before .before .before .before .before .before .before .before .before in
     let b = buffers (now (start .args .memory)) (now (start .args .table)) (now (start .args .sheet)) in
     let rows = rows-tested b (start .args .caller) (start .pre) in
-    let found : c .before .before .before .before .before .before .before .before .before .before .before .before .before .before .before .before .before .before .before .before .named-by .result ≡ named-by (page-of (start .args .rcx)) (parted b) = c .before .before .before .before .before .before .before .before .before .before .before .before .before .before .before .before .before .before .before .before .named-by .ensures in
+    let found : c .before .before .before .before .before .before .before .before .before .before .before .before .before .before .before .before .before .before .before .before .named-by .result ≡ named-by (page-of (start .args .rcx)) (parted b) = c .before .before .before .before .before .before .before .before .before .before .before .before .before .before .before .before .before .before .before .before .named-by .ensures ∙ ap (λ (p : ℕ). named-by p (parted b)) (omega arith) in
     rw (eq-eqb _ 0 (c .before .before .before .before .before .before .before .before .before .before .before .before .before .before .before .before .before .before .before .before .before .before .if1 .left), ← found, rows, lt-leb 16 _ (c .before .before .before .before .before .before .before .before .before .before .before .before .before .before .before .before .before .before .before .if2 .left), ne-eqb _ 0 (c .before .before .before .before .before .before .before .before .before .before .before .before .before .before .before .before .before .before .if3 .left), ← c .before .before .before .before .before .before .before .before .before .before .before .before .before .before .before .before .byte .ensures, ← c .before .before .before .before .before .before .before .before .before .before .before .before .before .before .byte2 .ensures, le-ltb _ _ (c .before .before .before .before .before .before .before .before .before .before .before .before .before .if4 .left), ← c .before .before .before .before .before .before .before .before .before .before .before .in-use .ensures, c .before .before .before .before .before .before .before .before .before .before .if5 .left)
     (λ k. record { answer = Success; after = sym (c .before .before .before .before .before .before .deleted .ensures) k })
 

@@ -1,7 +1,7 @@
 -- `list_calls::list_call` meets its contract: each check of the head in its order, and the run over the budget of entries.
 -- Assumes nothing.
 use mathlib.Core.Path.{_≡_, _∙_}
-use Prim.Native.Nat.{_/_, _%_, _<_}
+use Prim.Native.Nat.{_+_, _*_, _/_, _%_, _<_}
 use native.Mathlib.Omega.{arith}
 use borrow.Author.Tests.{lt-leb, le-leb, lt-ltb, le-ltb, eq-eqb, ne-eqb}
 use lib.Dec.{lit<, lit≤}
@@ -107,7 +107,7 @@ returns-4 c =
     let vmpl = vmpl-is (a .caller) (a .rcx) b (c .before .before .before .before .before .before .before .byte .result) (c .before .before .before .before .before .before .before .byte .ensures) in
     let test = bad-page-is (a .caller) (a .rcx) b (c .before .before .before .before .before .before .before .byte .result) _ (c .before .before .before .before .before .bad-list-page .ensures) in
     let count = count-is b (a .rcx) (c .before .before .number2 .result) (c .before .before .number2 .ensures) in
-    rw (eq-eqb _ 0 (c .before .before .before .before .before .before .before .before .if1 .left), vmpl, test, c .before .before .before .before .if2 .left, count, ne-eqb _ 0 (c .before .if3 .left), lt-ltb _ _ (c .if4 .taken))
+    rw (eq-eqb _ 0 (c .before .before .before .before .before .before .before .before .if1 .left), vmpl, test, c .before .before .before .before .if2 .left, count, ne-eqb _ 0 (c .before .if3 .left), lt-ltb page-size (offset-of (a .rcx) + 8 + 8 * c .before .before .number2 .result) (omega arith))
 
 add-number2 : tie.Need-add-number2
 add-number2 c = search needs
@@ -144,7 +144,7 @@ returns-5 c =
     let test = bad-page-is (a .caller) (a .rcx) b (c .before .before .before .before .before .before .before .before .before .before .byte .result) _ (c .before .before .before .before .before .before .before .before .bad-list-page .ensures) in
     let count = count-is b (a .rcx) (c .before .before .before .before .before .number2 .result) (c .before .before .before .before .before .number2 .ensures) in
     let next = next-is b (a .rcx) (c .before .number22 .result) (c .before .number22 .ensures) in
-    rw (eq-eqb _ 0 (c .before .before .before .before .before .before .before .before .before .before .before .if1 .left), vmpl, test, c .before .before .before .before .before .before .before .if2 .left, count, ne-eqb _ 0 (c .before .before .before .before .if3 .left), le-ltb _ _ (c .before .before .before .if4 .left), next, le-leb _ _ (c .if5 .taken))
+    rw (eq-eqb _ 0 (c .before .before .before .before .before .before .before .before .before .before .before .if1 .left), vmpl, test, c .before .before .before .before .before .before .before .if2 .left, count, ne-eqb _ 0 (c .before .before .before .before .if3 .left), le-ltb page-size (offset-of (a .rcx) + 8 + 8 * c .before .before .before .before .before .number2 .result) (omega (arith, c .before .before .before .if4 .left)), next, le-leb _ _ (c .if5 .taken))
 
 sub-at-most : tie.Need-sub-at-most
 sub-at-most c = search needs
@@ -182,7 +182,7 @@ returns-6 c =
     let test = bad-page-is (a .caller) (a .rcx) b (c .before .before .before .before .before .before .before .before .before .before .before .before .before .before .before .before .before .before .byte .result) _ (c .before .before .before .before .before .before .before .before .before .before .before .before .before .before .before .before .bad-list-page .ensures) in
     let count = count-is b (a .rcx) (c .before .before .before .before .before .before .before .before .before .before .before .before .before .number2 .result) (c .before .before .before .before .before .before .before .before .before .before .before .before .before .number2 .ensures) in
     let next = next-is b (a .rcx) (c .before .before .before .before .before .before .before .before .before .number22 .result) (c .before .before .before .before .before .before .before .before .before .number22 .ensures) in
-    rw (eq-eqb _ 0 (c .before .before .before .before .before .before .before .before .before .before .before .before .before .before .before .before .before .before .before .if1 .left), vmpl, test, c .before .before .before .before .before .before .before .before .before .before .before .before .before .before .before .if2 .left, count, ne-eqb _ 0 (c .before .before .before .before .before .before .before .before .before .before .before .before .if3 .left), le-ltb _ _ (c .before .before .before .before .before .before .before .before .before .before .before .if4 .left), next, lt-leb _ _ (c .before .before .before .before .before .before .before .before .if5 .left), ← c .before .before .before .before .before .before .before .at-most .ensures)
+    rw (eq-eqb _ 0 (c .before .before .before .before .before .before .before .before .before .before .before .before .before .before .before .before .before .before .before .if1 .left), vmpl, test, c .before .before .before .before .before .before .before .before .before .before .before .before .before .before .before .if2 .left, count, ne-eqb _ 0 (c .before .before .before .before .before .before .before .before .before .before .before .before .if3 .left), le-ltb page-size (offset-of (a .rcx) + 8 + 8 * c .before .before .before .before .before .before .before .before .before .before .before .before .before .number2 .result) (omega (arith, c .before .before .before .before .before .before .before .before .before .before .before .if4 .left)), next, lt-leb _ _ (c .before .before .before .before .before .before .before .before .if5 .left), ← c .before .before .before .before .before .before .before .at-most .ensures)
     (c .before .before .before .before .run .ensures)
 
 pub list-call-spec : {M : Type 1} → statement M

@@ -1,14 +1,18 @@
 -- `remap_call::remap` meets its contract: each refusal is the definition's, in its order, and what is moved is the definition's.
 -- Assumes nothing.
-use mathlib.Core.Path.{_≡_}
+use mathlib.Core.Bool.{not, _&&_}
+use mathlib.Core.Path.{_≡_, ap, _∙_}
+use Prim.Native.Nat.{ℕ}
+use native.Mathlib.Omega.{arith}
+use lib.ListN.{length, getD}
 use borrow.Author.Tests.{lt-ltb, le-ltb, eq-eqb, ne-eqb, not-true, not-false}
-use lib.Dec.{lit≤}
+use lib.Dec.{eqb, lit≤}
 use Rattle.rules.specs.declared.Code.the-variants.{Success}
 use denote.Ref.{now}
 use Rattle.rules.specs.Words.{multiple, page-size, records, record-size}
 use Rattle.rules.specs.Answers.{refuse}
-use Rattle.rules.specs.Machine.{N, below, page-of, table-byte, owned-by, usable, fields, record-at, vcpu}
-use Rattle.rules.specs.Calls.{remap}
+use Rattle.rules.specs.Machine.{N, below, page-of, plain, owner, valid, table-byte, owned-by, usable, fields, record-at, vcpu}
+use Rattle.rules.specs.Calls.{remap, remapped}
 use Rattle.rules.specs.Flat.{Buffers, parted}
 use Rattle.laws.proofs.Tested.{sheet-tested, caller-below, caller-names}
 use Rattle.sheet.proofs.At.{at}
@@ -22,7 +26,9 @@ returns c = rw (ne-eqb _ 0 (c .if1 .taken))
 
 returns-2 : tie.Need-returns-2
 unfolding remap refuse multiple page-of usable below N table-byte owned-by vcpu record-at fields parted page-size record-size
-returns-2 c = rw (eq-eqb _ 0 (c .before .if1 .left), le-ltb _ _ (c .if2 .taken))
+returns-2 c =
+    let a = c .before .before .before .before .before .args in
+    rw (eq-eqb _ 0 (c .before .if1 .left), le-ltb (page-of (a .rcx)) (length (now (a .table))) (omega arith))
 
 slice-read-b : tie.Need-slice-read-b
 slice-read-b c = search needs
@@ -32,7 +38,17 @@ is-valid-requires c κs = search needs
 
 returns-3 : tie.Need-returns-3
 unfolding remap refuse multiple page-of usable below N table-byte owned-by vcpu record-at fields parted page-size record-size
-returns-3 c = rw (eq-eqb _ 0 (c .before .before .before .before .if1 .left), lt-ltb _ _ (c .before .before .before .if2 .left), ← c .before .is-valid .ensures, not-true (c .before .is-valid .result) (c .if3 .taken))
+returns-3 c =
+    let a = c .before .before .before .before .before .before .before .before .args in
+    let table = now (a .table) in
+    let says : c .before .is-valid .result ≡ valid (getD table (page-of (a .rcx)) 0) =
+    c .before .is-valid .ensures ∙ ap (λ (p : ℕ). valid (getD table p 0)) (omega arith) in
+    rw (
+      eq-eqb _ 0 (c .before .before .before .before .if1 .left),
+      lt-ltb (page-of (a .rcx)) (length table) (omega arith),
+      ← says,
+      not-true (c .before .is-valid .result) (c .if3 .taken),
+    )
 
 number4-requires : tie.Need-number4-requires
 unfolding record-size records
@@ -54,13 +70,22 @@ same-length c = search needs
 returns-4 : tie.Need-returns-4
 unfolding remap refuse multiple page-of usable below N table-byte owned-by vcpu record-at fields parted page-size record-size
 returns-4 c =
+    let a = c .before .before .before .before .before .before .before .before .before .before .before .before .args in
+    let table = now (a .table) in
+    let new = page-of (a .rcx) in
+    let checked = c .before .before .before .before .before .is-valid in
+    let old = c .before .before .number4 in
+    let foreign = c .before .is-foreign in
+    let says : checked .result ≡ valid (getD table new 0) = checked .ensures ∙ ap (λ (p : ℕ). valid (getD table p 0)) (omega arith) in
+    let tells : foreign .result ≡ (not (eqb (owner (getD table new 0)) plain) && not (eqb new (old .result))) =
+    foreign .ensures ∙ ap (λ (p : ℕ). not (eqb (owner (getD table p 0)) plain) && not (eqb p (old .result))) (omega arith) in
     rw (
       eq-eqb _ 0 (c .before .before .before .before .before .before .before .before .if1 .left),
-      lt-ltb _ _ (c .before .before .before .before .before .before .before .if2 .left),
-      ← c .before .before .before .before .before .is-valid .ensures,
-      not-false (c .before .before .before .before .before .is-valid .result) (c .before .before .before .before .if3 .left),
-      ← c .before .before .number4 .ensures,
-      ← c .before .is-foreign .ensures,
+      lt-ltb new (length table) (omega arith),
+      ← says,
+      not-false (checked .result) (c .before .before .before .before .if3 .left),
+      ← old .ensures,
+      ← tells,
       c .if4 .taken,
     )
 
@@ -84,16 +109,27 @@ same-length-4 c = search needs
 returns-5 : tie.Need-returns-5
 unfolding remap refuse multiple page-of usable below N table-byte owned-by vcpu record-at fields parted page-size record-size
 returns-5 c =
+    let a = c .before .before .before .before .before .before .before .before .before .before .before .before .before .before .before .before .before .before .before .before .before .before .args in
+    let table = now (a .table) in
+    let m = parted (record { memory = now (a .memory); table = table; sheet = now (a .sheet) }) in
+    let new = page-of (a .rcx) in
+    let checked = c .before .before .before .before .before .before .before .before .before .before .before .before .before .before .before .is-valid in
+    let old = c .before .before .before .before .before .before .before .before .before .before .before .before .number4 in
+    let foreign = c .before .before .before .before .before .before .before .before .before .before .before .is-foreign in
+    let says : checked .result ≡ valid (getD table new 0) = checked .ensures ∙ ap (λ (p : ℕ). valid (getD table p 0)) (omega arith) in
+    let tells : foreign .result ≡ (not (eqb (owner (getD table new 0)) plain) && not (eqb new (old .result))) =
+    foreign .ensures ∙ ap (λ (p : ℕ). not (eqb (owner (getD table p 0)) plain) && not (eqb p (old .result))) (omega arith) in
+    let moved = ap (λ (p : ℕ). remapped (a .caller) (old .result) p m) {x = new} (omega arith) ∙ c .before .before .before .before .before .before .move-all .ensures in
     rw (
       eq-eqb _ 0 (c .before .before .before .before .before .before .before .before .before .before .before .before .before .before .before .before .before .before .if1 .left),
-      lt-ltb _ _ (c .before .before .before .before .before .before .before .before .before .before .before .before .before .before .before .before .before .if2 .left),
-      ← c .before .before .before .before .before .before .before .before .before .before .before .before .before .before .before .is-valid .ensures,
-      not-false (c .before .before .before .before .before .before .before .before .before .before .before .before .before .before .before .is-valid .result) (c .before .before .before .before .before .before .before .before .before .before .before .before .before .before .if3 .left),
-      ← c .before .before .before .before .before .before .before .before .before .before .before .before .number4 .ensures,
-      ← c .before .before .before .before .before .before .before .before .before .before .before .is-foreign .ensures,
+      lt-ltb new (length table) (omega arith),
+      ← says,
+      not-false (checked .result) (c .before .before .before .before .before .before .before .before .before .before .before .before .before .before .if3 .left),
+      ← old .ensures,
+      ← tells,
       c .before .before .before .before .before .before .before .before .before .before .if4 .left,
     )
-    (λ i. record { answer = Success; after = c .before .before .before .before .before .before .move-all .ensures i })
+    (λ i. record { answer = Success; after = moved i })
 
 pub remap-spec : {M : Type 1} → statement M
 remap-spec =

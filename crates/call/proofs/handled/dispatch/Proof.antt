@@ -1,9 +1,14 @@
 -- `call::handled::dispatch` meets its contract: the call that RAX names, by its own contract.
 -- Assumes nothing.
-use mathlib.Core.Path.{refl}
+use mathlib.Core.Path.{_≡_, refl}
+use denote.Ref.{now}
 use borrow.Author.Tests.{ne-eqb}
+use Rattle.rules.specs.Words.{entries-a-call}
+use Rattle.rules.specs.declared.ListCall.the-variants.{Deposit}
 use Rattle.rules.specs.Machine.{with-lent}
+use Rattle.rules.specs.Lists.{list-call}
 use Rattle.rules.specs.Call.{dispatch, on-lent, on-rcx, with-rcx}
+use Rattle.rules.specs.Flat.{parted}
 use Rattle.call.proofs.Chosen.{named}
 use borrow.Author.Needs.{needs}
 use Rattle.call.proofs.handled.dispatch.Statement.{statement}
@@ -107,7 +112,11 @@ same-length-15 c = search needs
 
 returns-7 : tie.Need-returns-7
 unfolding dispatch on-lent with-lent with-rcx
-returns-7 c = rw (named (c .before .before .before .before .before .before .before .before .before .before .before .before .before .args .g) 4 (c .before .before .before .before .before .before .before .before .match .keys5), c .before .before .before .before .list-call2 .ensures)
+returns-7 c =
+    let a = c .before .before .before .before .before .before .before .before .before .before .before .before .before .args in
+    let m = parted (record { memory = now (a .memory); table = now (a .table); sheet = now (a .sheet) }) in
+    let done : list-call entries-a-call Deposit (a .caller) (a .g .rcx) m ≡ _ = c .before .before .before .before .list-call2 .ensures in
+    rw (named (a .g) 4 (c .before .before .before .before .before .before .before .before .match .keys5), done)
 
 same-length-16 : tie.Need-same-length-16
 same-length-16 c = search needs

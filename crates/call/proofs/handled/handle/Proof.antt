@@ -1,5 +1,7 @@
 -- `call::handled::handle` meets its contract: its two refusals in their order, then the call.
 -- Assumes nothing.
+use Prim.Native.Nat.{_/_}
+use native.Mathlib.Omega.{arith}
 use borrow.Author.Tests.{le-leb, lt-leb, eq-eqb, ne-eqb}
 use Rattle.rules.specs.Answers.{refuse}
 use Rattle.rules.specs.Call.{handle, with-rcx}
@@ -23,7 +25,7 @@ same-length-3 c = search needs
 
 returns : tie.Need-returns
 unfolding handle refuse with-rcx
-returns c = rw (← c .before .pending .ensures, le-leb _ _ (c .if1 .taken))
+returns c = rw (← c .before .pending .ensures, le-leb 2 (c .before .pending .result) (omega (arith, c .if1 .taken)))
 
 same-length-4 : tie.Need-same-length-4
 same-length-4 c = search needs
@@ -36,7 +38,14 @@ same-length-6 c = search needs
 
 returns-2 : tie.Need-returns-2
 unfolding handle refuse with-rcx
-returns-2 c = rw (← c .before .before .before .pending .ensures, lt-leb _ _ (c .before .before .if1 .left), protocol-is (c .before .before .before .before .before .before .before .before .before .before .args .g) (fits-lt-pow (c .before .struct-known .given .0)), ne-eqb _ _ (c .if2 .taken))
+returns-2 c =
+    let g = c .before .before .before .before .before .before .before .before .before .before .args .g in
+    rw (
+      ← c .before .before .before .pending .ensures,
+      lt-leb 2 (c .before .before .before .pending .result) (omega (arith, c .before .before .if1 .left)),
+      protocol-is g (fits-lt-pow (c .before .struct-known .given .0)),
+      ne-eqb (g .rax / 4294967296) 0 (omega (arith, c .if2 .taken)),
+    )
 
 dispatch-requires : tie.Need-dispatch-requires
 dispatch-requires c κs = search needs
@@ -52,7 +61,15 @@ same-length-9 c = search needs
 
 returns-3 : tie.Need-returns-3
 unfolding handle refuse
-returns-3 c = rw (← c .before .before .before .before .before .before .before .before .before .before .before .before .before .pending .ensures, lt-leb _ _ (c .before .before .before .before .before .before .before .before .before .before .before .before .if1 .left), protocol-is (c .before .before .before .before .before .before .before .before .before .before .before .before .before .before .before .before .before .before .before .before .args .g) (fits-lt-pow (c .before .before .before .before .before .before .before .before .before .before .before .struct-known .given .0)), eq-eqb _ _ (c .before .before .before .before .before .before .before .before .before .before .if2 .left)) (c .before .before .before .before .before .before .dispatch .ensures)
+returns-3 c =
+    let g = c .before .before .before .before .before .before .before .before .before .before .before .before .before .before .before .before .before .before .before .before .args .g in
+    rw (
+      ← c .before .before .before .before .before .before .before .before .before .before .before .before .before .pending .ensures,
+      lt-leb 2 (c .before .before .before .before .before .before .before .before .before .before .before .before .before .pending .result) (omega (arith, c .before .before .before .before .before .before .before .before .before .before .before .before .if1 .left)),
+      protocol-is g (fits-lt-pow (c .before .before .before .before .before .before .before .before .before .before .before .struct-known .given .0)),
+      eq-eqb (g .rax / 4294967296) 0 (omega (arith, c .before .before .before .before .before .before .before .before .before .before .if2 .left)),
+    )
+    (c .before .before .before .before .before .before .dispatch .ensures)
 
 pub handle-spec : {M : Type 1} → statement M
 handle-spec =

@@ -1,7 +1,7 @@
 -- `entries::covered::all_plain` meets its contract. The loop's invariant: each page passed is plain and not the list's.
 -- The measure is the number of pages left.
 -- Assumes nothing.
-use mathlib.Core.Path.{_≡_, refl, sym}
+use mathlib.Core.Path.{_≡_, refl, sym, ap, _∙_}
 use mathlib.Core.Bool.{Bool, true, not, _&&_, and-false}
 use mathlib.Core.List.{List}
 use Prim.Native.Nat.{ℕ, _+_, _-_, _≤_, zero-le}
@@ -46,7 +46,10 @@ returns c =
     let l = c .before .before .before .before .loop in
     let first = a .first in
     let test = plain-at (now (a .table)) (a .list) in
-    sym (every-fails test first (a .n) (first + l .i) (omega arith) (omega arith) (rw (← c .before .owner-of .ensures, ne-eqb _ 0 (c .if1 .taken))))
+    let page = first + l .i in
+    let at : c .before .owner-of .result ≡ owner (getD (now (a .table)) page 0) = c .before .owner-of .ensures ∙ ap (λ (p : ℕ). owner (getD (now (a .table)) p 0)) (omega arith) in
+    let foreign = ne-eqb (owner (getD (now (a .table)) page 0)) plain (omega (arith, at)) in
+    sym (every-fails test first (a .n) page (omega arith) (omega arith) (rw foreign))
 
 returns-2 : tie.Need-returns-2 Inv-loop μ-loop
 returns-2 c =
@@ -54,7 +57,8 @@ returns-2 c =
     let l = c .before .before .before .before .before .loop in
     let first = a .first in
     let test = plain-at (now (a .table)) (a .list) in
-    sym (every-fails test first (a .n) (first + l .i) (omega arith) (omega arith) (rw (eq-eqb _ _ (c .if2 .taken)) (simp and-false)))
+    let page = first + l .i in
+    sym (every-fails test first (a .n) page (omega arith) (omega arith) (rw (eq-eqb page (a .list) (omega arith)) (simp and-false)))
 
 add-i : tie.Need-add-i Inv-loop μ-loop
 add-i c = omega arith
@@ -67,10 +71,12 @@ loop-again c =
     let a = c .before .before .before .before .before .before .before .args in
     let l = c .before .before .before .before .before .loop in
     let first = a .first in
-    let test = plain-at (now (a .table)) (a .list) in (
-      omega arith,
-      rw add-one (every-more test first (l .i) (l .inv .1) (rw (← c .before .before .owner-of .ensures, eq-eqb _ 0 (c .before .if1 .left), ne-eqb _ _ (c .if2 .left)))),
-    )
+    let test = plain-at (now (a .table)) (a .list) in
+    let page = first + l .i in
+    let at : c .before .before .owner-of .result ≡ owner (getD (now (a .table)) page 0) = c .before .before .owner-of .ensures ∙ ap (λ (p : ℕ). owner (getD (now (a .table)) p 0)) (omega arith) in
+    let own = eq-eqb (owner (getD (now (a .table)) page 0)) plain (omega (arith, at)) in
+    let other = ne-eqb page (a .list) (omega arith) in
+    (omega arith, rw add-one (every-more test first (l .i) (l .inv .1) (rw (own, other))))
 
 returns-3 : tie.Need-returns-3 Inv-loop μ-loop
 returns-3 c =

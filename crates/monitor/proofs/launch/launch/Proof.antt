@@ -2,7 +2,8 @@
 -- Assumes nothing.
 use mathlib.Core.Path.{_≡_, sym, _∙_, ap}
 use mathlib.Core.Bool.{true}
-use Prim.Native.Nat.{ℕ}
+use Prim.Native.Nat.{ℕ, _*_}
+use native.Mathlib.Omega.{arith}
 use borrow.Author.Tests.{eq-eqb, ne-eqb, not-true, not-false}
 use lib.ListN.{length}
 use denote.Ref.{now}
@@ -25,7 +26,9 @@ returns c = launch-unsized _ _ _ (rw (sym (c .before .fits2 .ensures) ∙ not-tr
 
 returns-2 : tie.Need-returns-2
 unfolding Launch-promise well-sized memory-sized sheet-sized record-size records
-returns-2 c = launch-unsized _ _ _ (rw ((sym (c .before .before .fits2 .ensures) ∙ not-false _ (c .before .if1 .left)), ne-eqb _ _ (c .if2 .taken)))
+returns-2 c =
+    let sheet = now (c .before .before .before .before .before .before .args .sheet) in
+    launch-unsized _ _ _ (rw ((sym (c .before .before .fits2 .ensures) ∙ not-false _ (c .before .if1 .left)), ne-eqb (length sheet) (record-size * records) (omega arith)))
 
 returns-3 : tie.Need-returns-3
 unfolding Launch-promise

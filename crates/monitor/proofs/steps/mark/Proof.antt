@@ -1,5 +1,6 @@
 -- `monitor::steps::mark` meets its contract: each refusal is the definition's, and the byte that is set is the byte of the record.
 -- Assumes nothing.
+use native.Mathlib.Omega.{arith}
 use borrow.Author.Tests.{lt-leb, le-leb, lt-ltb, le-ltb, eq-eqb, ne-eqb, not-true, not-false}
 use lib.Dec.{lit≤}
 use Rattle.rules.specs.Words.{record-size, records}
@@ -23,7 +24,9 @@ returns-2 c = mark-refused _ _ _ (eq-eqb _ _ (c .before .if1 .left)) (rw (le-ltb
 
 returns-3 : tie.Need-returns-3
 unfolding Mark-promise sheet-sized record-size records may-mark is-live fields record-at parted
-returns-3 c = mark-refused _ _ _ (eq-eqb _ _ (c .before .before .if1 .left)) (rw (lt-ltb _ _ (c .before .if2 .left), lt-leb _ _ (c .if3 .taken)))
+returns-3 c =
+    let running = c .before .before .before .before .args .running in
+    mark-refused _ _ _ (eq-eqb _ _ (c .before .before .if1 .left)) (rw (lt-ltb _ _ (c .before .if2 .left), lt-leb running 1 (omega arith)))
 
 byte-requires : tie.Need-byte-requires
 unfolding records record-size
@@ -35,8 +38,9 @@ same-length c = search needs
 returns-4 : tie.Need-returns-4
 unfolding Mark-promise sheet-sized record-size records may-mark is-live fields record-at parted
 returns-4 c =
+    let running = c .before .before .before .before .before .before .before .args .running in
     mark-refused _ _ _ (eq-eqb _ _ (c .before .before .before .before .before .if1 .left))
-    (rw (lt-ltb _ _ (c .before .before .before .before .if2 .left), le-leb _ _ (c .before .before .before .if3 .left), ← c .before .byte .ensures, ne-eqb _ 1 (c .if4 .taken)))
+    (rw (lt-ltb _ _ (c .before .before .before .before .if2 .left), le-leb running 1 (omega arith), ← c .before .byte .ensures, ne-eqb _ 1 (c .if4 .taken)))
 
 put-byte-requires : tie.Need-put-byte-requires
 unfolding records record-size
@@ -48,8 +52,9 @@ same-length-2 c = search needs
 returns-5 : tie.Need-returns-5
 unfolding Mark-promise sheet-sized record-size records may-mark is-live fields record-at parted
 returns-5 c =
+    let running = c .before .before .before .before .before .before .before .before .before .before .before .args .running in
     mark-done _ _ _ _ (eq-eqb _ _ (c .before .before .before .before .before .before .before .before .before .if1 .left))
-    (rw (lt-ltb _ _ (c .before .before .before .before .before .before .before .before .if2 .left), le-leb _ _ (c .before .before .before .before .before .before .before .if3 .left), ← c .before .before .before .before .before .byte .ensures, eq-eqb _ 1 (c .before .before .before .before .if4 .left)))
+    (rw (lt-ltb _ _ (c .before .before .before .before .before .before .before .before .if2 .left), le-leb running 1 (omega arith), ← c .before .before .before .before .before .byte .ensures, eq-eqb _ 1 (c .before .before .before .before .if4 .left)))
     (c .before .before .put-byte .kept .0) (c .before .before .put-byte .ensures)
 
 pub mark-spec : {M : Type 1} → statement M

@@ -4,11 +4,11 @@ use mathlib.Core.Path.{_≡_, sym, _∙_}
 use Prim.Native.Nat.{_+_}
 use borrow.Author.Tests.{lt-leb, le-leb, lt-ltb, le-ltb, eq-eqb, ne-eqb, not-true, not-false}
 use lib.Dec.{lit<}
-use lib.ListN.{length}
+use lib.ListN.{length, getD}
 use denote.Ref.{now}
 use native.Mathlib.Omega.{arith}
 use Rattle.rules.specs.Words.{page-size}
-use Rattle.rules.specs.Machine.{below, N, table-byte}
+use Rattle.rules.specs.Machine.{below, N, permitted, table-byte}
 use Rattle.rules.specs.Steps.{may-store}
 use Rattle.rules.specs.Flat.{parted, memory-sized}
 use Rattle.rules.specs.Promises.{Store-promise}
@@ -68,13 +68,14 @@ returns-6 c =
     let start = c .before .before .before .before .before .before .before .before .before .before .before .before .before in
     let offset = start .args .offset in
     let bytes = now (start .args .bytes) in
+    let says : c .before .is-permitted .result ≡ permitted (start .args .vmpl) (getD (now (start .args .table)) (start .args .page) 0) = c .before .is-permitted .ensures in
     store-refused _ _ _ _ _ _ (sym (c .before .before .before .before .before .before .before .before .before .fits2 .ensures) ∙ not-false _ (c .before .before .before .before .before .before .before .before .if1 .left))
     (rw (
       lt-ltb _ _ (c .before .before .before .before .before .before .before .if2 .left),
       le-leb (offset + length bytes) 4096 (omega arith),
       ← c .before .before .before .is-valid .ensures,
       not-false (c .before .before .before .is-valid .result) (c .before .before .if5 .left),
-      ← c .before .is-permitted .ensures,
+      ← says,
       not-true (c .before .is-permitted .result) (c .if6 .taken),
     ))
 
@@ -94,13 +95,14 @@ returns-7 c =
     let start = c .before .before .before .before .before .before .before .before .before .before .before .before .before .before .before .before .before in
     let offset = start .args .offset in
     let bytes = now (start .args .bytes) in
+    let says : c .before .before .before .before .before .is-permitted .result ≡ permitted (start .args .vmpl) (getD (now (start .args .table)) (start .args .page) 0) = c .before .before .before .before .before .is-permitted .ensures in
     store-done _ _ _ _ _ _ _ (sym (c .before .before .before .before .before .before .before .before .before .before .before .before .before .fits2 .ensures) ∙ not-false _ (c .before .before .before .before .before .before .before .before .before .before .before .before .if1 .left))
     (rw (
       lt-ltb _ _ (c .before .before .before .before .before .before .before .before .before .before .before .if2 .left),
       le-leb (offset + length bytes) 4096 (omega arith),
       ← c .before .before .before .before .before .before .before .is-valid .ensures,
       not-false (c .before .before .before .before .before .before .before .is-valid .result) (c .before .before .before .before .before .before .if5 .left),
-      ← c .before .before .before .before .before .is-permitted .ensures,
+      ← says,
       not-false (c .before .before .before .before .before .is-permitted .result) (c .before .before .before .before .if6 .left),
     ))
     (c .before .before .put-bytes .kept .0) (c .before .before .put-bytes .ensures)
