@@ -1,5 +1,6 @@
--- The words of the statements: what became of a page, of the pool, of a call that is gone or refused, and what a host does with its bytes. A statement spells
--- out what it says and does not lean on the rule that it judges, so some of these say again, in numbers, what a rule says.
+-- The words of the statements: what became of a page, of the pool, of a call that is gone or refused, and what a host does with its bytes. Most of them say again,
+-- in numbers, what a rule says, so that a wrong rule breaks a statement and does not move it. Shared with the rules are the table byte's own words (owner, valid,
+-- permitted, own, grant), the places in a list, and in At-entry the run and the entry reader.
 use mathlib.Core.Path.{_≡_}
 use mathlib.Core.Bool.{Bool, true, false, cond, not, _&&_, _||_}
 use mathlib.Core.List.{List, [], _∷_}
@@ -161,7 +162,7 @@ pub record Left-by-gone (caller : ℕ) (g : Registers) (m : Lent) (after : Posed
 
 -- ---- Refused
 
--- outcome 0 and a code that is neither 0 nor 0x80000000
+-- the code of a handled call is neither 0 nor 0x80000000
 unfoldable pub refused : Registers → Bool
 refused after = not (eqb (after .rax) 0) && not (eqb (after .rax) 0x80000000)
 
