@@ -1,7 +1,7 @@
 -- `entries::reader::read_pvalidate` meets its contract: how many of the covered pages are valid tells whether all are, and whether none is.
 -- Assumes nothing.
 use mathlib.Core.Path.{_≡_, sym, _∙_, ap, ap₂}
-use mathlib.Core.Bool.{true, false}
+use mathlib.Core.Bool.{true, false, true≢false, false≢true}
 use mathlib.Core.List.{List}
 use Prim.Native.Nat.{ℕ}
 use lib.Dec.{eqb}
@@ -37,7 +37,7 @@ returns c =
     let found = c .before .before .count-valid in
     let said = c .before .is-mixed in
     let taken = c .if1 .taken in
-    let mixed : said .result ≡ true = by-test (said .result) (λ t. t) (λ t. cc taken) in
+    let mixed : said .result ≡ true = by-test (said .result) (λ t. t) (λ t. absurd (false≢true (rw t at taken))) in
     rw (by-count (now (a .table)) (a .first) (a .n) (found .result) (found .ensures) (a .e), ← said .ensures, mixed)
 
 is-unchanged-requires : tie.Need-is-unchanged-requires
@@ -49,7 +49,7 @@ returns-2 c =
     let found = c .before .before .before .before .count-valid in
     let said = c .before .before .before .is-mixed in
     let left = c .before .before .if1 .left in
-    let unmixed : said .result ≡ false = by-test (said .result) (λ t. cc left) (λ t. t) in
+    let unmixed : said .result ≡ false = by-test (said .result) (λ t. absurd (true≢false (rw t at left))) (λ t. t) in
     rw (by-count (now (a .table)) (a .first) (a .n) (found .result) (found .ensures) (a .e), ← said .ensures, unmixed, ← c .before .is-unchanged .ensures, c .if2 .taken)
 
 wish-of-requires : tie.Need-wish-of-requires
@@ -61,7 +61,7 @@ returns-3 c =
     let found = c .before .before .before .before .before .count-valid in
     let said = c .before .before .before .before .is-mixed in
     let left = c .before .before .before .if1 .left in
-    let unmixed : said .result ≡ false = by-test (said .result) (λ t. cc left) (λ t. t) in
+    let unmixed : said .result ≡ false = by-test (said .result) (λ t. absurd (true≢false (rw t at left))) (λ t. t) in
     rw (by-count (now (a .table)) (a .first) (a .n) (found .result) (found .ensures) (a .e), ← said .ensures, unmixed, ← c .before .before .is-unchanged .ensures, c .before .if2 .left, ← c .wish-of .ensures)
 
 pub read-pvalidate-spec : {M : Type 1} → statement M
