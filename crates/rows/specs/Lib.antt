@@ -1,3 +1,4 @@
 pub mod Night
 pub mod Table
+pub mod Opened
 pub mod Statement

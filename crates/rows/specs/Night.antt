@@ -1,6 +1,6 @@
 -- How a table of rows is read. A row goes on from the machine that the row above it left: first the guest, at VMPL 1, stores some bytes; then
 -- comes a launch or a call; then the answer, bytes of memory and bytes of the table are compared with what is expected, and the machine has to be sound.
-use Rattle.rules.specs.Words.{ℕ, zero, suc, _/_, _%_, _^_, Bool, true, false, _&&_, List, [], _∷_, eqb, length, take, drop, every}
+use Rattle.rules.specs.Words.{ℕ, zero, suc, cond, _/_, _%_, _^_, Bool, true, false, _&&_, List, [], _∷_, eqb, length, take, drop, every}
 use Rattle.rules.specs.declared.Registers.{Registers}
 use Rattle.rules.specs.Answers.{outcome-number, launched-number}
 use Rattle.rules.specs.Machine.{Machine, page-of, offset-of, page-at, vcpu}
@@ -66,8 +66,10 @@ as-expected r s =
     && every (λ e. stand (m .table) (e .place) (e .bytes)) (r .table)
     && sound m
 
-unfoldable pub hold : List Row → Machine → Bool
-hold [] m = true
-hold (r ∷ rs) m =
+-- the numbers of the rows that are wrong, the first of them counted as `number`
+unfoldable pub wrong-rows : ℕ → List Row → Machine → List ℕ
+wrong-rows number [] m = []
+wrong-rows number (r ∷ rs) m =
     let s = happen (r .event) (run-steps (guest-stores (r .stored)) m) in
-    as-expected r s && hold rs (s .machine)
+    let rest = wrong-rows (suc number) rs (s .machine) in
+    cond (as-expected r s) rest (number ∷ rest)

@@ -1,26 +1,12 @@
--- Every row of the table holds, and leaves a sound machine: the launched sixteen pages are one. antt computes it from the definitions of `rules`, so it opens all of those that a step comes to.
+-- The rows that are wrong: none; and each leaves a sound machine, the launched sixteen pages first. antt computes it from the definitions of `rules`. It does not print
+-- the numbers where a row is wrong, but takes the right guess: with row 3 wrong, `≡ 3 ∷ []` is proved.
 use mathlib.Core.Path.{_≡_, refl}
-use mathlib.Core.Bool.{true}
-use Rattle.rules.specs.Words.{page-size, least-pages, most-pages, records, record-size, records-without-pool, entries-a-call, large, registers-size, between, multiple, bits}
-use Rattle.rules.specs.Words.{bit, with-bit, without-bit, little, number, range, every, exists, count, lowest, places, each}
-use Rattle.rules.specs.Answers.{outcome-number, code-number, launched-number, refuse, numbered}
-use Rattle.rules.specs.Machine.{with-lent, N, below, page-of, offset-of, page-at, with-memory, written, write, zeros, fill, owner, valid, permitted}
-use Rattle.rules.specs.Machine.{grant, revoke, own, make-valid, make-invalid, table-byte, put, change, owned-by, usable, fields, laid-out, is-live}
-use Rattle.rules.specs.Machine.{holds, needs-page, record-at, vcpu, startup, amend, vmsa-vmpl, vmsa-features, efer}
-use Rattle.rules.specs.Launch.{in-monitor, out-of-range, areas-meet, unfit-vmsa, launch-byte, launch-table, launch-record, launch-sheet, made, launch}
-use Rattle.rules.specs.Steps.{may-store, store}
-use Rattle.rules.specs.Sound.{bad-names, bad-record, claim, claims, agrees, well-permitted, page-fault, live-fault, record-fault, table-sized, pages-sized, sound}
-use Rattle.rules.specs.Lists.{bad-list-page, in-list, list-count, list-next, list-entry, store-index, bad-count, bad-next, entry-first, entry-pages}
-use Rattle.rules.specs.Lists.{covered, reserved-bits, malformed, coverable, read-covered, read-entry, wished, cleared, carry-out, carry-out-all}
-use Rattle.rules.specs.Lists.{after-entry, run, run-within, list-call}
-use Rattle.rules.specs.Calls.{remapped, remap, asked, unfit-pages, unfit-vcpu, free-record, is-free, free-page, any-free, new-record, created, create}
-use Rattle.rules.specs.Calls.{clear-svme, deleted, named-by, delete, withdrawn-pages, give-back, gpas, withdrawn, withdraw, query, configure, vtom}
-use Rattle.rules.specs.Call.{with-rax, with-rcx, bad-sheet, bad-machine, pending, no-call, protocol, call-number, on-lent, on-rcx, dispatch, handle}
-use Rattle.rules.specs.Call.{clear-pending, set-flag, finish, call}
-use Rattle.rules.specs.Runs.{called, step, run-steps}
-use Rattle.rows.specs.Night.{hex, guest-stores, happen, same, stand, as-expected, hold}
-use Rattle.rows.specs.Table.{blank, plan, at, times, entries, blank-page, ask, code, rows}
+use mathlib.Core.List.{[]}
+use Rattle.rows.specs.Night.{wrong-rows}
+use Rattle.rows.specs.Table.{blank, rows}
+use Rattle.rows.specs.Opened.{open-words, open-answers, open-machine, open-launch, open-steps, open-sound}
+use Rattle.rows.specs.Opened.{open-lists, open-calls, open-call, open-runs, open-night, open-table}
 
-pub every-row-holds : hold rows blank ≡ true
-unfolding page-size least-pages most-pages records record-size records-without-pool entries-a-call large registers-size between multiple bits bit with-bit without-bit little number range every exists count lowest places each outcome-number code-number launched-number refuse numbered with-lent N below page-of offset-of page-at with-memory written write zeros fill owner valid permitted grant revoke own make-valid make-invalid table-byte put change owned-by usable fields laid-out is-live holds needs-page record-at vcpu startup amend vmsa-vmpl vmsa-features efer in-monitor out-of-range areas-meet unfit-vmsa launch-byte launch-table launch-record launch-sheet made launch may-store store bad-names bad-record claim claims agrees well-permitted page-fault live-fault record-fault table-sized pages-sized sound bad-list-page in-list list-count list-next list-entry store-index bad-count bad-next entry-first entry-pages covered reserved-bits malformed coverable read-covered read-entry wished cleared carry-out carry-out-all after-entry run run-within list-call remapped remap asked unfit-pages unfit-vcpu free-record is-free free-page any-free new-record created create clear-svme deleted named-by delete withdrawn-pages give-back gpas withdrawn withdraw query configure vtom with-rax with-rcx bad-sheet bad-machine pending no-call protocol call-number on-lent on-rcx dispatch handle clear-pending set-flag finish call called step run-steps hex guest-stores happen same stand as-expected hold blank plan at times entries blank-page ask code rows
-every-row-holds = refl
+pub no-row-is-wrong : wrong-rows 1 rows blank ≡ []
+unfolding open-words open-answers open-machine open-launch open-steps open-sound open-lists open-calls open-call open-runs open-night open-table
+no-row-is-wrong = refl
