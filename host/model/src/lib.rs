@@ -5,6 +5,7 @@
 //!
 //! The four steps take the arguments of the exported functions in the same order and answer with the sheet's numbers.
 
+pub mod answers;
 pub mod call;
 pub mod launch;
 pub mod lists;

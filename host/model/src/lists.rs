@@ -2,7 +2,7 @@
 
 use std::ops::Range;
 
-use crate::call::*;
+use crate::answers::*;
 use crate::machine::*;
 
 /// A list whose head was accepted: the page that holds it, where in memory it starts, its count and next index.

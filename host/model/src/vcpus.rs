@@ -1,6 +1,6 @@
 //! The calls about vCPUs: 0 Remap, 2 Create, 3 Delete.
 
-use crate::call::*;
+use crate::answers::*;
 use crate::machine::*;
 
 fn is_page_multiple(gpa: u64) -> bool {

@@ -3,6 +3,7 @@
 mod common;
 
 use common::Owned;
+use model::answers::*;
 use model::call::*;
 use model::machine::{put_number, PAGE};
 use model::{mark, store};

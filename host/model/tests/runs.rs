@@ -7,6 +7,7 @@ mod common;
 use std::collections::BTreeMap;
 
 use common::Owned;
+use model::answers::*;
 use model::call::*;
 use model::machine::{number, owner, PAGE, POOL_FREE, POOL_IN_USE};
 use model::{mark, store};

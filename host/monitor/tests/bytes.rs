@@ -8,7 +8,8 @@ mod common;
 use common::guest::{make, step};
 use common::seen::Seen;
 use common::{Buffer, Twins, PAGE};
-use model::call::{INCOMPLETE, REGISTERS, SIZE_MISMATCH};
+use model::answers::{INCOMPLETE, SIZE_MISMATCH};
+use model::call::REGISTERS;
 use model::machine::{number, CALLING_PAGE, RECORD, RECORDS};
 use trials::{steps_or, Random};
 

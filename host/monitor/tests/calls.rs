@@ -6,7 +6,7 @@ mod common;
 
 use common::guest::{launched, step};
 use common::seen::Seen;
-use model::call::{IN_USE, REQUEST, SIZE_MISMATCH};
+use model::answers::{IN_USE, REQUEST, SIZE_MISMATCH};
 use trials::{steps_or, Random};
 
 /// Runs of so many steps, on machines of as many pages as are drawn.

@@ -8,7 +8,7 @@ mod common;
 use common::guest::{launched, step};
 use common::seen::Seen;
 use common::{Buffer, Twins};
-use model::call::SIZE_MISMATCH;
+use model::answers::SIZE_MISMATCH;
 use model::machine::*;
 use trials::{steps_or, Random};
 

@@ -2,6 +2,7 @@
 
 #![allow(dead_code)] // Each test file takes what it needs.
 
+use model::answers::*;
 use model::call::*;
 use model::machine::{number, put_number, PAGE};
 

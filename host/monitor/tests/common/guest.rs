@@ -1,6 +1,7 @@
 //! What a guest does, step by step, drawn at random.
 
-use model::call::{INCOMPLETE, RAX};
+use model::answers::INCOMPLETE;
+use model::call::RAX;
 use model::machine::number;
 use monitor::{Launched, Outcome, Plan};
 use trials::{draw_call, Random};

@@ -4,6 +4,7 @@ use std::collections::BTreeMap;
 use std::fmt;
 use std::ops::Range;
 
+use model::answers::*;
 use model::call::*;
 use model::machine::*;
 use monitor::Outcome;
