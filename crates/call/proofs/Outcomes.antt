@@ -1,5 +1,5 @@
 -- A call on flat bytes: where it is bad or none nothing changes, and where it is handled the buffers are those whose parts are the new machine.
-use mathlib.Core.Path.{_≡_}
+use mathlib.Core.Path.{_≡_, _∙_}
 use mathlib.Core.Bool.{true, false}
 use Prim.Native.Nat.{ℕ}
 use Rattle.rules.specs.declared.Registers.{Registers}
@@ -10,6 +10,7 @@ use Rattle.rules.specs.Answers.{Answered, refuse}
 use Rattle.rules.specs.Machine.{Machine}
 use Rattle.rules.specs.Call.{Posed, bad-machine, no-call, handle, finish, call}
 use Rattle.rules.specs.Flat.{Buffers, parted, joined, well-sized, call-bytes}
+use Rattle.laws.specs.Tested.{Tested}
 use Rattle.laws.proofs.FlatLaunch.{joined-parted}
 
 module _ (caller : ℕ) (g : Registers) (b : Buffers) where
@@ -24,16 +25,16 @@ module _ (caller : ℕ) (g : Registers) (b : Buffers) where
     unfolding call-bytes call refuse
     call-bad e = rw (sized, e, joined-parted b sized)
 
-    module _ (good : bad-machine caller (parted b) ≡ false) where
-      pub call-none : no-call caller g (parted b) ≡ true
-          → call-bytes caller (record { registers = g; machine = b }) ≡ record { answer = NoCall; after = record { registers = g; machine = b } }
-      unfolding call-bytes call refuse
-      call-none e = rw (sized, good, e, joined-parted b sized)
+  module _ (t : Tested b caller) where
+    pub call-none : no-call caller g (parted b) ≡ true
+        → call-bytes caller (record { registers = g; machine = b }) ≡ record { answer = NoCall; after = record { registers = g; machine = b } }
+    unfolding call-bytes call refuse
+    call-none e = rw (t .sized, t .shape, e, joined-parted b (t .sized))
 
-      pub call-ended : no-call caller g (parted b) ≡ false
-          → (a : Answered Code (Posed Registers Machine)) → handle caller (record { registers = g; machine = record { lent = parted b } }) ≡ a
-          → (o : Outcome) (r : Registers) (after : Buffers) → well-sized after ≡ true
-          → finish caller g a ≡ record { answer = o; after = record { registers = r; machine = record { lent = parted after } } }
-          → call-bytes caller (record { registers = g; machine = b }) ≡ record { answer = o; after = record { registers = r; machine = after } }
-      unfolding call-bytes call refuse
-      call-ended e a handled o r after s ended = rw (sized, good, e, handled, ended, joined-parted after s)
+    pub call-ended : no-call caller g (parted b) ≡ false
+        → (a : Answered Code (Posed Registers Machine)) → handle caller (record { registers = g; machine = record { lent = parted b } }) ≡ a
+        → (o : Outcome) (r : Registers) (after : Buffers) → well-sized after ≡ well-sized b
+        → finish caller g a ≡ record { answer = o; after = record { registers = r; machine = record { lent = parted after } } }
+        → call-bytes caller (record { registers = g; machine = b }) ≡ record { answer = o; after = record { registers = r; machine = after } }
+    unfolding call-bytes call refuse
+    call-ended e a handled o r after same ended = rw (t .sized, t .shape, e, handled, ended, joined-parted after (same ∙ t .sized))

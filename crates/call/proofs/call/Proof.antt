@@ -1,6 +1,7 @@
 -- `call::call` meets its contract: the outcomes in the definition's order, and the buffers that the machine is joined to.
 -- Assumes nothing.
-use mathlib.Core.Path.{_≡_, sym, _∙_, ap}
+use mathlib.Core.Path.{_≡_, sym, _∙_}
+use mathlib.Core.Bool.{true, false}
 use Prim.Native.Nat.{_*_}
 use native.Mathlib.Omega.{arith}
 use lib.ListN.{length}
@@ -13,10 +14,40 @@ use Rattle.rules.specs.Call.{bad-machine, no-call}
 use Rattle.rules.specs.Flat.{Buffers, parted, memory-sized, sheet-sized, well-sized}
 use Rattle.rules.specs.Promises.{Call-promise}
 use Rattle.laws.proofs.FlatLaunch.{well-sized-by, same-sizes}
-use Rattle.laws.proofs.Tested.{caller-below}
+use Rattle.laws.specs.Tested.{Tested}
+use Rattle.laws.proofs.Tested.{sheet-tested, caller-below}
 use Rattle.call.proofs.Outcomes.{call-unsized, call-bad, call-none, call-ended}
 use Rattle.call.proofs.call.Statement.{statement}
 use Rattle.call.proofs.call.Tie as tie
+
+-- The places that others look back at, each from its neighbour, and what is known there.
+abbrev lent : tie.Start → Buffers
+lent c = record { memory = now (c .args .memory); table = now (c .args .table); sheet = now (c .args .sheet) }
+
+abbrev if1-start : tie.Else1 → tie.Start
+if1-start c = let at-fits = c .before .before in at-fits .before .before .before
+
+sized : (c : tie.Else2) → well-sized (lent (if1-start (c .before))) ≡ true
+sized c = let at-if1 = c .before in well-sized-by _ (sym (at-if1 .before .fits2 .ensures) ∙ not-false _ (at-if1 .if1 .left)) (c .if2 .left)
+
+abbrev at-start : tie.After-pending-arg3 → tie.Start
+at-start c = let at-if3 = c .before .before .before in let at-if2 = at-if3 .before .before .before in if1-start (at-if2 .before)
+
+tested : (c : tie.After-pending-arg3) → Tested (lent (at-start c)) (at-start c .args .caller)
+unfolding bad-machine N parted
+tested c = let at-if3 = c .before .before .before in record { sized = sized (at-if3 .before .before .before); shape = sym (at-if3 .before .bad-sheet .ensures) ∙ at-if3 .if3 .left }
+
+abbrev at-pending : tie.After-handle-arg3 → tie.After-pending
+at-pending c = let at-if5 = c .before .before .before in at-if5 .before .before .before
+
+made : (c : tie.After-handle-arg3) → let s = at-start (at-pending c .before) in no-call (s .args .caller) (s .args .g) (parted (lent s)) ≡ false
+unfolding no-call
+made c =
+    let at-if5 = c .before .before .before in let g = at-start (at-pending c .before) .args .g in
+    rw (← at-pending c .pending .ensures, ne-eqb _ _ (at-if5 .before .before .if4 .left), eq-eqb (g .reason) 0x403 (omega (arith, at-if5 .if5 .left)))
+
+abbrev at-handle : tie.After-finish-arg3 → tie.After-handle
+at-handle c = let at-sheet = c .before .before .before in let at-table = at-sheet .before .before in let at-memory = at-table .before .before in at-memory .before .before
 
 fits-requires : tie.Need-fits-requires
 fits-requires c κs = search needs
@@ -34,9 +65,9 @@ left-requires-2 c κs = search needs
 returns-2 : tie.Need-returns-2
 unfolding Call-promise well-sized memory-sized sheet-sized record-size records
 returns-2 c =
-    let sheet = now (c .before .before .before .before .before .before .before .args .sheet) in
-    let short = ne-eqb (length sheet) (record-size * records) (omega (arith, c .before .if2 .taken)) in
-    rw (c .left2 .ensures) (call-unsized _ _ _ (rw (sym (c .before .before .before .fits2 .ensures) ∙ not-false _ (c .before .before .if1 .left), short)))
+    let at-if1 = c .before .before in
+    let short = ne-eqb (length (lent (if1-start at-if1) .sheet)) (record-size * records) (omega (arith, c .before .if2 .taken)) in
+    rw (c .left2 .ensures) (call-unsized _ _ _ (rw (sym (at-if1 .before .fits2 .ensures) ∙ not-false _ (at-if1 .if1 .left), short)))
 
 bad-sheet-requires : tie.Need-bad-sheet-requires
 unfolding record-size records
@@ -50,20 +81,10 @@ same-length c = search needs
 
 returns-3 : tie.Need-returns-3
 unfolding Call-promise bad-machine N parted
-returns-3 c =
-    let a = c .before .before .before .before .before .before .before .before .before .before .args in
-    let b : Buffers = record { memory = now (a .memory); table = now (a .table); sheet = now (a .sheet) } in
-    let sized = well-sized-by b (sym (c .before .before .before .before .before .before .fits2 .ensures) ∙ not-false _ (c .before .before .before .before .before .if1 .left)) (c .before .before .before .before .if2 .left) in
-    rw (c .left3 .ensures) (call-bad _ _ b sized (sym (c .before .before .bad-sheet .ensures) ∙ c .before .if3 .taken))
+returns-3 c = let at-bad-sheet = c .before .before in rw (c .left3 .ensures) (call-bad _ _ _ (sized (at-bad-sheet .before .before)) (sym (at-bad-sheet .bad-sheet .ensures) ∙ c .before .if3 .taken))
 
 pending-requires : tie.Need-pending-requires
-unfolding bad-machine N parted
-pending-requires c κs =
-    let a = c .before .before .before .before .before .before .before .before .before .before .before .before .args in
-    let b : Buffers = record { memory = now (a .memory); table = now (a .table); sheet = now (a .sheet) } in
-    let sized = well-sized-by b (sym (c .before .before .before .before .before .before .before .before .fits2 .ensures) ∙ not-false _ (c .before .before .before .before .before .before .before .if1 .left)) (c .before .before .before .before .before .before .if2 .left) in
-    let good = sym (c .before .before .before .before .bad-sheet .ensures) ∙ c .before .before .before .if3 .left in
-    record { sized = sized; shape = good }
+pending-requires c κs = tested c
 
 left-requires-4 : tie.Need-left-requires-4
 left-requires-4 c κs = search needs
@@ -78,13 +99,8 @@ same-length-4 : tie.Need-same-length-4
 same-length-4 c = search needs
 
 returns-4 : tie.Need-returns-4
-unfolding Call-promise bad-machine N parted no-call
-returns-4 c =
-    let a = c .before .before .before .before .before .before .before .before .before .before .before .before .before .before .before .args in
-    let b : Buffers = record { memory = now (a .memory); table = now (a .table); sheet = now (a .sheet) } in
-    let sized = well-sized-by b (sym (c .before .before .before .before .before .before .before .before .before .before .before .fits2 .ensures) ∙ not-false _ (c .before .before .before .before .before .before .before .before .before .before .if1 .left)) (c .before .before .before .before .before .before .before .before .before .if2 .left) in
-    let good = sym (c .before .before .before .before .before .before .before .bad-sheet .ensures) ∙ c .before .before .before .before .before .before .if3 .left in
-    rw (c .left4 .ensures) (call-none _ _ b sized good (rw (← c .before .before .pending .ensures, eq-eqb _ _ (c .before .if4 .taken))))
+unfolding Call-promise no-call
+returns-4 c = let at-pending = c .before .before in rw (c .left4 .ensures) (call-none _ _ _ (tested (at-pending .before)) (rw (← at-pending .pending .ensures, eq-eqb _ _ (c .before .if4 .taken))))
 
 left-requires-5 : tie.Need-left-requires-5
 left-requires-5 c κs = search needs
@@ -99,31 +115,19 @@ same-length-7 : tie.Need-same-length-7
 same-length-7 c = search needs
 
 returns-5 : tie.Need-returns-5
-unfolding Call-promise bad-machine N parted no-call
+unfolding Call-promise no-call
 returns-5 c =
-    let a = c .before .before .before .before .before .before .before .before .before .before .before .before .before .before .before .before .before .args in
-    let b : Buffers = record { memory = now (a .memory); table = now (a .table); sheet = now (a .sheet) } in
-    let sized = well-sized-by b (sym (c .before .before .before .before .before .before .before .before .before .before .before .before .before .fits2 .ensures) ∙ not-false _ (c .before .before .before .before .before .before .before .before .before .before .before .before .if1 .left)) (c .before .before .before .before .before .before .before .before .before .before .before .if2 .left) in
-    let good = sym (c .before .before .before .before .before .before .before .before .before .bad-sheet .ensures) ∙ c .before .before .before .before .before .before .before .before .if3 .left in
-    rw (c .left5 .ensures) (call-none _ _ b sized good (rw (← c .before .before .before .before .pending .ensures, ne-eqb _ _ (c .before .before .before .if4 .left), ne-eqb (a .g .reason) 0x403 (omega (arith, c .before .if5 .taken)))))
+    let at-if4 = c .before .before .before in let at-pending = at-if4 .before in let g = at-start (at-pending .before) .args .g in
+    rw (c .left5 .ensures) (call-none _ _ _ (tested (at-pending .before)) (rw (← at-pending .pending .ensures, ne-eqb _ _ (at-if4 .if4 .left), ne-eqb (g .reason) 0x403 (omega (arith, c .before .if5 .taken)))))
 
 handle-requires : tie.Need-handle-requires
-unfolding bad-machine N parted
-handle-requires c κs =
-    let a = c .before .before .before .before .before .before .before .before .before .before .before .before .before .before .before .before .before .before .before .args in
-    let b : Buffers = record { memory = now (a .memory); table = now (a .table); sheet = now (a .sheet) } in
-    let sized = well-sized-by b (sym (c .before .before .before .before .before .before .before .before .before .before .before .before .before .before .before .fits2 .ensures) ∙ not-false _ (c .before .before .before .before .before .before .before .before .before .before .before .before .before .before .if1 .left)) (c .before .before .before .before .before .before .before .before .before .before .before .before .before .if2 .left) in
-    let good = sym (c .before .before .before .before .before .before .before .before .before .before .before .bad-sheet .ensures) ∙ c .before .before .before .before .before .before .before .before .before .before .if3 .left in
-    record { sized = sized; shape = good }
+handle-requires c κs = tested (at-pending c .before)
 
 finish-requires : tie.Need-finish-requires
-unfolding bad-machine N parted record-size records
+unfolding record-size records
 finish-requires c κs =
-    let a = c .before .before .before .before .before .before .before .before .before .before .before .before .before .before .before .before .before .before .before .before .before .before .before .before .before .before .before .before .before .args in
-    let b : Buffers = record { memory = now (a .memory); table = now (a .table); sheet = now (a .sheet) } in
-    let sized = well-sized-by b (sym (c .before .before .before .before .before .before .before .before .before .before .before .before .before .before .before .before .before .before .before .before .before .before .before .before .before .fits2 .ensures) ∙ not-false _ (c .before .before .before .before .before .before .before .before .before .before .before .before .before .before .before .before .before .before .before .before .before .before .before .before .if1 .left)) (c .before .before .before .before .before .before .before .before .before .before .before .before .before .before .before .before .before .before .before .before .before .before .before .if2 .left) in
-    let good = sym (c .before .before .before .before .before .before .before .before .before .before .before .before .before .before .before .before .before .before .before .before .before .bad-sheet .ensures) ∙ c .before .before .before .before .before .before .before .before .before .before .before .before .before .before .before .before .before .before .before .before .if3 .left in
-    record { sized = c .before .before .before .before .before .before .before .before .before .handle .kept .1 .1 .0 ∙ c .before .before .before .before .before .before .before .before .before .before .before .before .before .before .before .before .before .before .before .before .before .before .before .if2 .left; below = caller-below b (a .caller) (record { sized = sized; shape = good }) }
+    let t = tested (at-pending (at-handle c .before) .before) in
+    record { sized = at-handle c .handle .kept .1 .1 .0 ∙ sheet-tested _ _ t; below = caller-below _ _ t }
 
 same-length-8 : tie.Need-same-length-8
 same-length-8 c = search needs
@@ -135,14 +139,11 @@ same-length-10 : tie.Need-same-length-10
 same-length-10 c = search needs
 
 returns-6 : tie.Need-returns-6
-unfolding Call-promise bad-machine N parted no-call
+unfolding Call-promise
 returns-6 c =
-    let a = c .before .before .before .before .before .before .before .before .before .before .before .before .before .before .before .before .before .before .before .before .before .before .before .before .before .before .before .before .before .before .before .before .args in
-    let b : Buffers = record { memory = now (a .memory); table = now (a .table); sheet = now (a .sheet) } in
-    let sized = well-sized-by b (sym (c .before .before .before .before .before .before .before .before .before .before .before .before .before .before .before .before .before .before .before .before .before .before .before .before .before .before .before .before .fits2 .ensures) ∙ not-false _ (c .before .before .before .before .before .before .before .before .before .before .before .before .before .before .before .before .before .before .before .before .before .before .before .before .before .before .before .if1 .left)) (c .before .before .before .before .before .before .before .before .before .before .before .before .before .before .before .before .before .before .before .before .before .before .before .before .before .before .if2 .left) in
-    let good = sym (c .before .before .before .before .before .before .before .before .before .before .before .before .before .before .before .before .before .before .before .before .before .before .before .before .bad-sheet .ensures) ∙ c .before .before .before .before .before .before .before .before .before .before .before .before .before .before .before .before .before .before .before .before .before .before .before .if3 .left in
-    let kept = c .before .before .before .before .before .before .before .before .before .before .before .before .handle .kept in
-    call-ended _ _ b sized good (rw (← c .before .before .before .before .before .before .before .before .before .before .before .before .before .before .before .before .before .before .before .pending .ensures, ne-eqb _ _ (c .before .before .before .before .before .before .before .before .before .before .before .before .before .before .before .before .before .before .if4 .left), eq-eqb (a .g .reason) 0x403 (omega (arith, c .before .before .before .before .before .before .before .before .before .before .before .before .before .before .before .before .if5 .left)))) _ (c .before .before .before .before .before .before .before .before .before .before .before .before .handle .ensures) _ _ _ (same-sizes b _ (c .before .before .finish .kept .0 ∙ kept .0) (kept .1 .0) (kept .1 .1 .0) ∙ sized) (c .before .before .finish .ensures)
+    let at-finish = c .before .before in let handled = at-handle (at-finish .before) in let kept = handled .handle .kept in
+    call-ended _ _ _ (tested (at-pending (handled .before) .before)) (made (handled .before)) _ (handled .handle .ensures)
+    _ _ _ (same-sizes _ _ (at-finish .finish .kept .0 ∙ kept .0) (kept .1 .0) (kept .1 .1 .0)) (at-finish .finish .ensures)
 
 pub call-spec : {M : Type 1} → statement M
 call-spec =

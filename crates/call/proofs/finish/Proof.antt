@@ -26,7 +26,9 @@ same-length c = search needs
 
 returns : tie.Need-returns
 unfolding finish is-live record-at fields parted record-size with-lent
-returns c = rw (← c .before .before .before .before .before .byte .ensures, ne-eqb (c .before .before .before .before .before .byte .result) 1 (omega (arith, c .before .before .before .before .if1 .taken)), c .before .before .set-flag .ensures)
+returns c =
+    let at-set-flag = c .before .before in let at-if1 = at-set-flag .before .before in let live = at-if1 .before .byte in
+    rw (← live .ensures, ne-eqb (live .result) 1 (omega (arith, at-if1 .if1 .taken)), at-set-flag .set-flag .ensures)
 
 clear-pending-requires : tie.Need-clear-pending-requires
 clear-pending-requires c κs = search needs
@@ -43,16 +45,11 @@ same-length-2 c = search needs
 returns-2 : tie.Need-returns-2
 unfolding finish is-live record-at fields parted record-size with-lent with-rax with-rcx
 returns-2 c =
-    let live = c .before .before .before .before .before .before .before .before .before .before .byte in
-    let told = c .before .before .before .before .before .before .before .before .before .before .before .before .before .before .args .told in
-    let code : c .number-of .result ≡ code-number (told .code) = c .number-of .ensures in
-    rw (
-      ← live .ensures,
-      eq-eqb (live .result) 1 (omega (arith, c .before .before .before .before .before .before .before .before .before .if1 .left)),
-      c .before .before .before .before .before .before .before .clear-pending .ensures,
-      c .before .before .before .set-flag2 .ensures,
-      ← code,
-    )
+    let at-set-flag = c .before .before .before in let at-memory = at-set-flag .before .before in let at-clear = at-memory .before .before in
+    let at-if1 = at-clear .before .before in let at-byte = at-if1 .before in let at-lengths = at-byte .before in
+    let code : c .number-of .result ≡ code-number (at-lengths .before .before .before .args .told .code) = c .number-of .ensures in
+    let live = eq-eqb (at-byte .byte .result) 1 (omega (arith, at-if1 .if1 .left)) in
+    rw (← at-byte .byte .ensures, live, at-clear .clear-pending .ensures, at-set-flag .set-flag2 .ensures, ← code)
 
 pub finish-spec : {M : Type 1} → statement M
 finish-spec =

@@ -1,18 +1,19 @@
 -- `call::handled::dispatch` meets its contract: the call that RAX names, by its own contract.
 -- Assumes nothing.
 use mathlib.Core.Path.{_≡_, refl}
-use denote.Ref.{now}
 use borrow.Author.Tests.{ne-eqb}
 use Rattle.rules.specs.Words.{entries-a-call}
 use Rattle.rules.specs.declared.ListCall.the-variants.{Deposit}
 use Rattle.rules.specs.Machine.{with-lent}
 use Rattle.rules.specs.Lists.{list-call}
 use Rattle.rules.specs.Call.{dispatch, on-lent, on-rcx, with-rcx}
-use Rattle.rules.specs.Flat.{parted}
 use Rattle.call.proofs.Chosen.{named}
 use borrow.Author.Needs.{needs}
 use Rattle.call.proofs.handled.dispatch.Statement.{statement}
 use Rattle.call.proofs.handled.dispatch.Tie as tie
+
+abbrev at-start : tie.After-struct-known → tie.Start
+at-start c = let at-lengths = c .before in at-lengths .before .before .before
 
 cast-number : tie.Need-cast-number
 cast-number c = search needs
@@ -40,14 +41,14 @@ queried-requires c κs = search needs
 
 returns : tie.Need-returns
 unfolding dispatch on-rcx with-rcx
-returns c = rw (named (c .before .before .before .before .before .before .args .g) 6 (c .before .match .keys7), c .queried .ensures)
+returns c = rw (named (at-start (c .before .before) .args .g) 6 (c .before .match .keys7), c .queried .ensures)
 
 answered-requires : tie.Need-answered-requires
 answered-requires c κs = search needs
 
 returns-2 : tie.Need-returns-2
 unfolding dispatch on-rcx with-rcx
-returns-2 c = rw (named (c .before .before .before .before .before .before .args .g) 7 (c .before .match .keys8), c .answered .ensures)
+returns-2 c = rw (named (at-start (c .before .before) .args .g) 7 (c .before .match .keys8), c .answered .ensures)
 
 same-length : tie.Need-same-length
 same-length c = search needs
@@ -60,7 +61,8 @@ same-length-3 c = search needs
 
 returns-3 : tie.Need-returns-3
 unfolding dispatch on-lent with-lent with-rcx
-returns-3 c = rw (named (c .before .before .before .before .before .before .before .before .before .before .before .before .before .before .before .args .g) 0 (c .before .before .before .before .before .before .before .before .before .before .match .keys1), c .before .before .before .before .before .before .remap .ensures)
+returns-3 c = let at-sheet = c .before .before in let at-table = at-sheet .before .before in let at-remap = at-table .before .before in let at-args = at-remap .before in let at-arm = at-args .before .before .before in
+    rw (named (at-start (at-arm .before) .args .g) 0 (at-arm .match .keys1), at-remap .remap .ensures)
 
 same-length-4 : tie.Need-same-length-4
 same-length-4 c = search needs
@@ -73,7 +75,8 @@ same-length-6 c = search needs
 
 returns-4 : tie.Need-returns-4
 unfolding dispatch on-lent with-lent with-rcx
-returns-4 c = rw (named (c .before .before .before .before .before .before .before .before .before .before .before .before .before .args .g) 1 (c .before .before .before .before .before .before .before .before .match .keys2), c .before .before .before .before .list-call .ensures)
+returns-4 c = let at-table = c .before .before in let at-list-call = at-table .before .before in let at-args = at-list-call .before in let at-arm = at-args .before .before .before in
+    rw (named (at-start (at-arm .before) .args .g) 1 (at-arm .match .keys2), at-list-call .list-call .ensures)
 
 same-length-7 : tie.Need-same-length-7
 same-length-7 c = search needs
@@ -86,7 +89,8 @@ same-length-9 c = search needs
 
 returns-5 : tie.Need-returns-5
 unfolding dispatch on-lent with-lent with-rcx
-returns-5 c = rw (named (c .before .before .before .before .before .before .before .before .before .before .before .before .before .args .g) 2 (c .before .before .before .before .before .before .before .before .match .keys3), c .before .before .before .before .create .ensures)
+returns-5 c = let at-sheet = c .before .before in let at-create = at-sheet .before .before in let at-args = at-create .before in let at-arm = at-args .before .before .before in
+    rw (named (at-start (at-arm .before) .args .g) 2 (at-arm .match .keys3), at-create .create .ensures)
 
 same-length-10 : tie.Need-same-length-10
 same-length-10 c = search needs
@@ -99,7 +103,8 @@ same-length-12 c = search needs
 
 returns-6 : tie.Need-returns-6
 unfolding dispatch on-lent with-lent with-rcx
-returns-6 c = rw (named (c .before .before .before .before .before .before .before .before .before .before .before .before .before .before .before .args .g) 3 (c .before .before .before .before .before .before .before .before .before .before .match .keys4), c .before .before .before .before .before .before .delete .ensures)
+returns-6 c = let at-sheet = c .before .before in let at-table = at-sheet .before .before in let at-delete = at-table .before .before in let at-args = at-delete .before in let at-arm = at-args .before .before .before in
+    rw (named (at-start (at-arm .before) .args .g) 3 (at-arm .match .keys4), at-delete .delete .ensures)
 
 same-length-13 : tie.Need-same-length-13
 same-length-13 c = search needs
@@ -113,10 +118,9 @@ same-length-15 c = search needs
 returns-7 : tie.Need-returns-7
 unfolding dispatch on-lent with-lent with-rcx
 returns-7 c =
-    let a = c .before .before .before .before .before .before .before .before .before .before .before .before .before .args in
-    let m = parted (record { memory = now (a .memory); table = now (a .table); sheet = now (a .sheet) }) in
-    let done : list-call entries-a-call Deposit (a .caller) (a .g .rcx) m ≡ _ = c .before .before .before .before .list-call2 .ensures in
-    rw (named (a .g) 4 (c .before .before .before .before .before .before .before .before .match .keys5), done)
+    let at-table = c .before .before in let at-deposit = at-table .before .before in let at-args = at-deposit .before in let at-arm = at-args .before .before .before in
+    let done : list-call entries-a-call Deposit _ _ _ ≡ _ = at-deposit .list-call2 .ensures in
+    rw (named (at-start (at-arm .before) .args .g) 4 (at-arm .match .keys5), done)
 
 same-length-16 : tie.Need-same-length-16
 same-length-16 c = search needs
@@ -129,11 +133,12 @@ same-length-18 c = search needs
 
 returns-8 : tie.Need-returns-8
 unfolding dispatch on-lent with-lent with-rcx
-returns-8 c = rw (named (c .before .before .before .before .before .before .before .before .before .before .before .before .before .args .g) 5 (c .before .before .before .before .before .before .before .before .match .keys6), c .before .before .before .before .withdraw .ensures)
+returns-8 c = let at-table = c .before .before in let at-withdraw = at-table .before .before in let at-args = at-withdraw .before in let at-arm = at-args .before .before .before in
+    rw (named (at-start (at-arm .before) .args .g) 5 (at-arm .match .keys6), at-withdraw .withdraw .ensures)
 
 returns-9 : tie.Need-returns-9
 unfolding dispatch with-rcx
-returns-9 c = rw (named (c .before .before .before .before .before .args .g) _ refl, ne-eqb _ 0 (c .match .rest .0 .0 .0 .0 .0 .0 .0 .1), ne-eqb _ 1 (c .match .rest .0 .0 .0 .0 .0 .0 .1), ne-eqb _ 2 (c .match .rest .0 .0 .0 .0 .0 .1), ne-eqb _ 3 (c .match .rest .0 .0 .0 .0 .1), ne-eqb _ 4 (c .match .rest .0 .0 .0 .1), ne-eqb _ 5 (c .match .rest .0 .0 .1), ne-eqb _ 6 (c .match .rest .0 .1), ne-eqb _ 7 (c .match .rest .1))
+returns-9 c = rw (named (at-start (c .before) .args .g) _ refl, ne-eqb _ 0 (c .match .rest .0 .0 .0 .0 .0 .0 .0 .1), ne-eqb _ 1 (c .match .rest .0 .0 .0 .0 .0 .0 .1), ne-eqb _ 2 (c .match .rest .0 .0 .0 .0 .0 .1), ne-eqb _ 3 (c .match .rest .0 .0 .0 .0 .1), ne-eqb _ 4 (c .match .rest .0 .0 .0 .1), ne-eqb _ 5 (c .match .rest .0 .0 .1), ne-eqb _ 6 (c .match .rest .0 .1), ne-eqb _ 7 (c .match .rest .1))
 
 pub dispatch-spec : {M : Type 1} → statement M
 dispatch-spec =

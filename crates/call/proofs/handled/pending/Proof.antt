@@ -1,11 +1,10 @@
 -- `call::handled::pending` meets its contract: the page that the tested record names is below N.
 -- Assumes nothing.
 use lib.Dec.{lit<, lit≤}
-use denote.Ref.{now}
 use Rattle.rules.specs.Words.{page-size, records, record-size}
 use Rattle.rules.specs.Machine.{fields, record-at, vcpu, page-at}
 use Rattle.rules.specs.Call.{pending}
-use Rattle.rules.specs.Flat.{Buffers, parts, parted}
+use Rattle.rules.specs.Flat.{parted}
 use Rattle.laws.proofs.Tested.{sheet-tested, pages-tested, caller-below, caller-names}
 use Rattle.sheet.proofs.At.{at}
 use borrow.Author.Needs.{needs}
@@ -14,11 +13,7 @@ use Rattle.call.proofs.handled.pending.Tie as tie
 
 number4-requires : tie.Need-number4-requires
 unfolding record-size records
-number4-requires c κs =
-    let a = c .before .before .before .args in
-    let b : Buffers = record { memory = now (a .memory); table = now (a .table); sheet = now (a .sheet) } in
-    let tested = c .before .before .before .pre in
-    at (record { sized = sheet-tested b (a .caller) tested; below = caller-below b (a .caller) tested }) _ _ (lit≤ tt)
+number4-requires c κs = let tested = c .before .before .before .pre in at (record { sized = sheet-tested _ _ tested; below = caller-below _ _ tested }) _ _ (lit≤ tt)
 
 cast-page : tie.Need-cast-page
 cast-page c = search needs
@@ -26,10 +21,8 @@ cast-page c = search needs
 byte-requires : tie.Need-byte-requires
 unfolding page-size record-size fields
 byte-requires c κs =
-    let a = c .before .before .before .before .args in
-    let b : Buffers = record { memory = now (a .memory); table = now (a .table); sheet = now (a .sheet) } in
-    let tested = c .before .before .before .before .pre in
-    record { some = lit< tt; below = rw (c .number4 .ensures, pages-tested b (a .caller) tested) (caller-names b (a .caller) tested .calling); within = lit≤ tt }
+    let at-lengths = c .before in let tested = at-lengths .before .before .before .pre in
+    record { some = lit< tt; below = rw (c .number4 .ensures, pages-tested _ _ tested) (caller-names _ _ tested .calling); within = lit≤ tt }
 
 returns : tie.Need-returns
 unfolding pending page-at vcpu record-at fields parted record-size page-size

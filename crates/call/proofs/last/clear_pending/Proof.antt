@@ -28,7 +28,7 @@ same-length c = search needs
 
 returns : tie.Need-returns
 unfolding clear-pending write with-memory vcpu record-at startup fields parted any-free record-size
-returns c = rw (← c .before .before .before .before .number4 .ensures, c .before .before .put-byte .ensures)
+returns c = let at-put-byte = c .before .before in rw (← at-put-byte .before .before .number4 .ensures, at-put-byte .put-byte .ensures)
 
 pub clear-pending-spec : {M : Type 1} → statement M
 clear-pending-spec =

@@ -31,7 +31,7 @@ same-length c = search needs
 
 returns : tie.Need-returns
 unfolding set-flag write with-memory vcpu record-at startup fields parted any-free record-size
-returns c = rw (← c .before .before .before .before .before .number4 .ensures, ← c .before .before .before .flag .ensures, c .before .before .put-byte .ensures)
+returns c = let at-flag = c .before .before .before in rw (← at-flag .before .before .number4 .ensures, ← at-flag .flag .ensures, c .before .before .put-byte .ensures)
 
 pub set-flag-spec : {M : Type 1} → statement M
 set-flag-spec =
