@@ -59,6 +59,13 @@ pub fit-pool : (table : List ℕ) (i : ℕ) → (needs-page i && not (exists is-
     → lowest is-free table < length table
 fit-pool table i e t = ltb-true _ _ (sym (exists-lowest is-free table) ∙ not-false (exists is-free table) (rw t at e))
 
+-- what the registers, the pages and the vCPU have shown, once their tests are passed
+pub record Passed (caller rcx rdx r8 : ℕ) (b : Buffers) : Type 0 where
+  pub even : rcx % 4096 ≡ 0
+  pub too : rdx % 4096 ≡ 0
+  pub pages : unfit-pages (of-pages rcx rdx) (of-table (b .table)) ≡ false
+  pub vcpu : unfit-vcpu (of-vcpu (b .sheet) caller rcx r8) (without-table b) ≡ false
+
 module _ (caller rcx rdx r8 : ℕ) (b : Buffers) where
   same-pages : unfit-pages (asked caller rcx rdx r8 (parted b)) (parted b) ≡ unfit-pages (of-pages rcx rdx) (of-table (b .table))
   unfolding unfit-pages usable below N owned-by table-byte asked page-of page-size parted
@@ -87,27 +94,26 @@ module _ (caller rcx rdx r8 : ℕ) (b : Buffers) where
       unfolding create refuse multiple page-size
       bad-pages p = rw (eq-eqb _ 0 even, eq-eqb _ 0 too, same-pages ∙ p)
 
-      module _ (p : unfit-pages (of-pages rcx rdx) (of-table (b .table)) ≡ false) where
-        pub bad-vcpu : unfit-vcpu (of-vcpu (b .sheet) caller rcx r8) (without-table b) ≡ true
-            → create caller rcx rdx r8 (parted b) ≡ record { answer = Parameter; after = parted b }
-        unfolding create refuse multiple page-size
-        bad-vcpu v = rw (eq-eqb _ 0 even, eq-eqb _ 0 too, same-pages ∙ p, same-vcpu ∙ v)
+      pub bad-vcpu : unfit-pages (of-pages rcx rdx) (of-table (b .table)) ≡ false
+          → unfit-vcpu (of-vcpu (b .sheet) caller rcx r8) (without-table b) ≡ true
+          → create caller rcx rdx r8 (parted b) ≡ record { answer = Parameter; after = parted b }
+      unfolding create refuse multiple page-size
+      bad-vcpu p v = rw (eq-eqb _ 0 even, eq-eqb _ 0 too, same-pages ∙ p, same-vcpu ∙ v)
 
-        module _ (v : unfit-vcpu (of-vcpu (b .sheet) caller rcx r8) (without-table b) ≡ false) (i : ℕ)
-            (free : i ≡ lowest (λ r. not (is-live r)) (parts record-size (b .sheet))) where
-          pub no-record : length (parts record-size (b .sheet)) ≤ i
-              → create caller rcx rdx r8 (parted b) ≡ record { answer = Request; after = parted b }
-          unfolding create refuse multiple page-size free-record parted
-          no-record h = rw (eq-eqb _ 0 even, eq-eqb _ 0 too, same-pages ∙ p, same-vcpu ∙ v, ← free, le-leb _ _ h)
+  module _ (k : Passed caller rcx rdx r8 b) {i : ℕ} (free : i ≡ lowest (λ r. not (is-live r)) (parts record-size (b .sheet))) where
+    pub no-record : length (parts record-size (b .sheet)) ≤ i
+        → create caller rcx rdx r8 (parted b) ≡ record { answer = Request; after = parted b }
+    unfolding create refuse multiple page-size free-record parted
+    no-record h = rw (eq-eqb _ 0 (k .even), eq-eqb _ 0 (k .too), same-pages ∙ k .pages, same-vcpu ∙ k .vcpu, ← free, le-leb _ _ h)
 
-          module _ (h : i < length (parts record-size (b .sheet))) where
-            pub no-page : (needs-page i && not (exists is-free (b .table))) ≡ true
-                → create caller rcx rdx r8 (parted b) ≡ record { answer = OneMorePage; after = parted b }
-            unfolding create refuse multiple page-size free-record any-free parted
-            no-page n = rw (eq-eqb _ 0 even, eq-eqb _ 0 too, same-pages ∙ p, same-vcpu ∙ v, ← free, lt-leb _ _ h, n)
+    module _ (h : i < length (parts record-size (b .sheet))) where
+      pub no-page : (needs-page i && not (exists is-free (b .table))) ≡ true
+          → create caller rcx rdx r8 (parted b) ≡ record { answer = OneMorePage; after = parted b }
+      unfolding create refuse multiple page-size free-record any-free parted
+      no-page n = rw (eq-eqb _ 0 (k .even), eq-eqb _ 0 (k .too), same-pages ∙ k .pages, same-vcpu ∙ k .vcpu, ← free, lt-leb _ _ h, n)
 
-            pub done : (after : Lent) → (needs-page i && not (exists is-free (b .table))) ≡ false → after ≡ created (of-all rcx rdx r8) i (parted b)
-                → create caller rcx rdx r8 (parted b) ≡ record { answer = Success; after = after }
-            unfolding create refuse multiple page-size free-record any-free parted
-            done after n e =
-                rw (eq-eqb _ 0 even, eq-eqb _ 0 too, same-pages ∙ p, same-vcpu ∙ v, ← free, lt-leb _ _ h, n, same-made i, ← e)
+      pub done : {after : Lent} → (needs-page i && not (exists is-free (b .table))) ≡ false → after ≡ created (of-all rcx rdx r8) i (parted b)
+          → create caller rcx rdx r8 (parted b) ≡ record { answer = Success; after = after }
+      unfolding create refuse multiple page-size free-record any-free parted
+      done n e =
+          rw (eq-eqb _ 0 (k .even), eq-eqb _ 0 (k .too), same-pages ∙ k .pages, same-vcpu ∙ k .vcpu, ← free, lt-leb _ _ h, n, same-made i, ← e)

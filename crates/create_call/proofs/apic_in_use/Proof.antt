@@ -37,11 +37,8 @@ has-apic-requires c κs = record { sized = c .before .before .before .pre; below
 returns : tie.Need-returns Inv-loop μ-loop
 unfolding records record-size
 returns c =
-    let start = c .before .before .before .before .before in
-    let l = c .before .before .before .loop in
-    let sheet = now (start .args .sheet) in
-    let rows = parts record-size sheet in
-    sym (→exists (has (start .args .apic)) rows (l .i) [] (omega (arith, rows-of sheet (start .pre))) (sym (c .before .has-apic .ensures) ∙ c .if1 .taken))
+    let at-loop = c .before .before .before in let at-start = at-loop .before .before in
+    sym (→exists _ _ (at-loop .loop .i) [] (omega (arith, rows-of (now (at-start .args .sheet)) (at-start .pre))) (sym (c .before .has-apic .ensures) ∙ c .if1 .taken))
 
 add-i : tie.Need-add-i Inv-loop μ-loop
 add-i c = omega arith
@@ -50,21 +47,13 @@ loop-less : tie.Need-loop-less Inv-loop μ-loop
 loop-less c = omega arith
 
 loop-again : tie.Need-loop-again Inv-loop μ-loop
-loop-again c =
-    let start = c .before .before .before .before .before in
-    let l = c .before .before .before .loop in
-    let sheet = now (start .args .sheet) in
-    let rows = parts record-size sheet in
-    (omega arith, below-more (λ j. has (start .args .apic) (getD rows j []) ≡ false) (l .i) (l .inv .1) (sym (c .before .has-apic .ensures) ∙ c .if1 .left))
+loop-again c = let at-loop = c .before .before .before in (omega arith, below-more _ (at-loop .loop .i) (at-loop .loop .inv .1) (sym (c .before .has-apic .ensures) ∙ c .if1 .left))
 
 returns-2 : tie.Need-returns-2 Inv-loop μ-loop
 unfolding records record-size
 returns-2 c =
-    let start = c .before .before .before in
-    let l = c .before .loop in
-    let sheet = now (start .args .sheet) in
-    let rows = parts record-size sheet in
-    sym (→absent (has (start .args .apic)) rows [] (λ j h. l .inv .1 j (omega (arith, rows-of sheet (start .pre)))))
+    let at-loop = c .before in let at-start = at-loop .before .before in
+    sym (→absent _ _ [] (λ j h. at-loop .loop .inv .1 j (omega (arith, rows-of (now (at-start .args .sheet)) (at-start .pre)))))
 
 pub apic-in-use-spec : {M : Type 1} → statement M
 apic-in-use-spec =

@@ -6,24 +6,48 @@ use Rattle.rules.specs.Words.{records}
 use Rattle.rules.specs.Flat.{Buffers, memory-sized}
 use Rattle.laws.proofs.FlatSteps.{sizes}
 use Rattle.laws.proofs.Tested.{memory-tested, pages-tested, rows-tested, sheet-tested, caller-below}
-use Rattle.create_call.proofs.Ordered.{fit-pages, fit-pool, odd-vmsa, odd-calling, bad-pages, bad-vcpu, no-record, no-page, done}
+use Rattle.create_call.proofs.Ordered.{fit-pages, fit-pool, odd-vmsa, odd-calling, bad-pages, bad-vcpu, Passed, no-record, no-page, done}
 use borrow.Author.Needs.{needs}
 use Rattle.create_call.proofs.create.Statement.{statement}
 use Rattle.create_call.proofs.create.Tie as tie
 
+-- where the call began, and the place past each test, seen from behind the call that the next test asks
+abbrev else2 : tie.After-unfit-pages → tie.Else2
+else2 c = c .before .before
+
+abbrev else3 : tie.After-unfit-vcpu → tie.Else3
+else3 c = c .before .before
+
+abbrev else4 : tie.After-free-record → tie.Else4
+else4 c = c .before .before
+
+abbrev else5 : tie.After-lacks-page → tie.Else5
+else5 c = c .before .before
+
+abbrev start3 : tie.Else3 → tie.Start
+start3 c = let at-known = else2 (c .before) .before .before in at-known .before .before .before
+
+abbrev start4 : tie.Else4 → tie.Start
+start4 c = start3 (else3 (c .before))
+
+abbrev buffers : tie.Start → Buffers
+buffers s = record { memory = now (s .args .memory); table = now (s .args .table); sheet = now (s .args .sheet) }
+
+passed : (c : tie.Else4) → Passed (start4 c .args .caller) (start4 c .args .rcx) (start4 c .args .rdx) (start4 c .args .r8) (buffers (start4 c))
+passed c =
+    let at-if3 = else3 (c .before) in let at-if2 = else2 (at-if3 .before) in
+    record {
+      even = at-if2 .before .if1 .left;
+      too = at-if2 .if2 .left;
+      pages = sym (at-if3 .before .unfit-pages .ensures) ∙ at-if3 .if3 .left;
+      vcpu = sym (c .before .unfit-vcpu .ensures) ∙ c .if4 .left;
+    }
+
 returns : tie.Need-returns
-returns c =
-    let a = c .before .before .before .before .args in
-    let b : Buffers = record { memory = now (a .memory); table = now (a .table); sheet = now (a .sheet) } in
-    let tested = c .before .before .before .before .pre in
-    odd-vmsa (a .caller) (a .rcx) (a .rdx) (a .r8) b (c .if1 .taken)
+returns c = odd-vmsa _ _ _ _ _ (c .if1 .taken)
 
 returns-2 : tie.Need-returns-2
-returns-2 c =
-    let a = c .before .before .before .before .before .args in
-    let b : Buffers = record { memory = now (a .memory); table = now (a .table); sheet = now (a .sheet) } in
-    let tested = c .before .before .before .before .before .pre in
-    odd-calling (a .caller) (a .rcx) (a .rdx) (a .r8) b (c .before .if1 .left) (c .if2 .taken)
+returns-2 c = odd-calling _ _ _ _ _ (c .before .if1 .left) (c .if2 .taken)
 
 unfit-pages-requires : tie.Need-unfit-pages-requires
 unfit-pages-requires c κs = search needs
@@ -32,22 +56,16 @@ same-length : tie.Need-same-length
 same-length c = search needs
 
 returns-3 : tie.Need-returns-3
-returns-3 c =
-    let a = c .before .before .before .before .before .before .before .before .args in
-    let b : Buffers = record { memory = now (a .memory); table = now (a .table); sheet = now (a .sheet) } in
-    let tested = c .before .before .before .before .before .before .before .before .pre in
-    bad-pages (a .caller) (a .rcx) (a .rdx) (a .r8) b (c .before .before .before .before .if1 .left) (c .before .before .before .if2 .left) (sym (c .before .unfit-pages .ensures) ∙ c .if3 .taken)
+returns-3 c = let at-if2 = else2 (c .before) in bad-pages _ _ _ _ _ (at-if2 .before .if1 .left) (at-if2 .if2 .left) (sym (c .before .unfit-pages .ensures) ∙ c .if3 .taken)
 
 cast-apic : tie.Need-cast-apic
 cast-apic c = search needs
 
 unfit-vcpu-requires : tie.Need-unfit-vcpu-requires
 unfit-vcpu-requires c κs =
-    let a = c .before .before .before .before .before .before .before .before .before .args in
-    let b : Buffers = record { memory = now (a .memory); table = now (a .table); sheet = now (a .sheet) } in
-    let tested = c .before .before .before .before .before .before .before .before .before .pre in
-    let fit = fit-pages (b .table) (a .rcx) (a .rdx) (sym (c .before .before .unfit-pages .ensures) ∙ c .before .if3 .left) in
-    record { page = rw (pages-tested b (a .caller) tested) (fit .0); whole = sheet-tested b (a .caller) tested; told = caller-below b (a .caller) tested }
+    let at-if3 = c .before in let tested = start3 at-if3 .pre in
+    let fit = fit-pages _ _ _ (sym (at-if3 .before .unfit-pages .ensures) ∙ at-if3 .if3 .left) in
+    record { page = rw (pages-tested _ _ tested) (fit .0); whole = sheet-tested _ _ tested; told = caller-below _ _ tested }
 
 same-length-2 : tie.Need-same-length-2
 same-length-2 c = search needs
@@ -57,18 +75,11 @@ same-length-3 c = search needs
 
 returns-4 : tie.Need-returns-4
 returns-4 c =
-    let a = c .before .before .before .before .before .before .before .before .before .before .before .args in
-    let b : Buffers = record { memory = now (a .memory); table = now (a .table); sheet = now (a .sheet) } in
-    let tested = c .before .before .before .before .before .before .before .before .before .before .before .pre in
-    let pages = sym (c .before .before .before .before .unfit-pages .ensures) ∙ c .before .before .before .if3 .left in
-    bad-vcpu (a .caller) (a .rcx) (a .rdx) (a .r8) b (c .before .before .before .before .before .before .before .if1 .left) (c .before .before .before .before .before .before .if2 .left) pages (sym (c .before .unfit-vcpu .ensures) ∙ c .if4 .taken)
+    let at-if3 = else3 (c .before) in let at-if2 = else2 (at-if3 .before) in
+    bad-vcpu _ _ _ _ _ (at-if2 .before .if1 .left) (at-if2 .if2 .left) (sym (at-if3 .before .unfit-pages .ensures) ∙ at-if3 .if3 .left) (sym (c .before .unfit-vcpu .ensures) ∙ c .if4 .taken)
 
 free-record-requires : tie.Need-free-record-requires
-free-record-requires c κs =
-    let a = c .before .before .before .before .before .before .before .before .before .before .before .before .args in
-    let b : Buffers = record { memory = now (a .memory); table = now (a .table); sheet = now (a .sheet) } in
-    let tested = c .before .before .before .before .before .before .before .before .before .before .before .before .pre in
-    sheet-tested b (a .caller) tested
+free-record-requires c κs = sheet-tested _ _ (start4 (c .before) .pre)
 
 same-length-4 : tie.Need-same-length-4
 same-length-4 c = search needs
@@ -78,14 +89,7 @@ same-length-5 c = search needs
 
 returns-5 : tie.Need-returns-5
 unfolding records
-returns-5 c =
-    let a = c .before .before .before .before .before .before .before .before .before .before .before .before .before .before .args in
-    let b : Buffers = record { memory = now (a .memory); table = now (a .table); sheet = now (a .sheet) } in
-    let tested = c .before .before .before .before .before .before .before .before .before .before .before .before .before .before .pre in
-    let pages = sym (c .before .before .before .before .before .before .before .unfit-pages .ensures) ∙ c .before .before .before .before .before .before .if3 .left in
-    let vcpu = sym (c .before .before .before .before .unfit-vcpu .ensures) ∙ c .before .before .before .if4 .left in
-    let rows = rows-tested b (a .caller) tested in
-    no-record (a .caller) (a .rcx) (a .rdx) (a .r8) b (c .before .before .before .before .before .before .before .before .before .before .if1 .left) (c .before .before .before .before .before .before .before .before .before .if2 .left) pages vcpu _ (c .before .free-record .ensures) (rw rows (c .if5 .taken))
+returns-5 c = let at-if4 = else4 (c .before) in no-record _ _ _ _ _ (passed at-if4) (c .before .free-record .ensures) (rw (rows-tested _ _ (start4 at-if4 .pre)) (c .if5 .taken))
 
 lacks-page-requires : tie.Need-lacks-page-requires
 lacks-page-requires c κs = search needs
@@ -99,29 +103,22 @@ same-length-7 c = search needs
 returns-6 : tie.Need-returns-6
 unfolding records
 returns-6 c =
-    let a = c .before .before .before .before .before .before .before .before .before .before .before .before .before .before .before .before .before .args in
-    let b : Buffers = record { memory = now (a .memory); table = now (a .table); sheet = now (a .sheet) } in
-    let tested = c .before .before .before .before .before .before .before .before .before .before .before .before .before .before .before .before .before .pre in
-    let pages = sym (c .before .before .before .before .before .before .before .before .before .before .unfit-pages .ensures) ∙ c .before .before .before .before .before .before .before .before .before .if3 .left in
-    let vcpu = sym (c .before .before .before .before .before .before .before .unfit-vcpu .ensures) ∙ c .before .before .before .before .before .before .if4 .left in
-    let rows = rows-tested b (a .caller) tested in
-    no-page (a .caller) (a .rcx) (a .rdx) (a .r8) b (c .before .before .before .before .before .before .before .before .before .before .before .before .before .if1 .left) (c .before .before .before .before .before .before .before .before .before .before .before .before .if2 .left) pages vcpu _ (c .before .before .before .before .free-record .ensures) (rw rows (c .before .before .before .if5 .left)) (sym (c .before .lacks-page .ensures) ∙ c .if6 .taken)
+    let at-if5 = else5 (c .before) in let at-if4 = else4 (at-if5 .before) in
+    no-page _ _ _ _ _ (passed at-if4) (at-if5 .before .free-record .ensures) (rw (rows-tested _ _ (start4 at-if4 .pre)) (at-if5 .if5 .left)) (sym (c .before .lacks-page .ensures) ∙ c .if6 .taken)
 
 make-requires : tie.Need-make-requires
 unfolding records memory-sized
 make-requires c κs =
-    let a = c .before .before .before .before .before .before .before .before .before .before .before .before .before .before .before .before .before .before .before .args in
-    let b : Buffers = record { memory = now (a .memory); table = now (a .table); sheet = now (a .sheet) } in
-    let tested = c .before .before .before .before .before .before .before .before .before .before .before .before .before .before .before .before .before .before .before .pre in
-    let fit = fit-pages (b .table) (a .rcx) (a .rdx) (sym (c .before .before .before .before .before .before .before .before .before .before .before .before .unfit-pages .ensures) ∙ c .before .before .before .before .before .before .before .before .before .before .before .if3 .left) in
+    let at-if6 = c .before .before in let at-if5 = else5 (at-if6 .before) in let at-if4 = else4 (at-if5 .before) in
+    let tested = start4 at-if4 .pre in let pages = fit-pages _ _ _ (passed at-if4 .pages) in
     record {
-      pages = pages-tested b (a .caller) tested;
-      most = sizes _ _ (memory-tested b (a .caller) tested) .most;
-      sized = sheet-tested b (a .caller) tested;
-      below = c .before .before .before .before .before .if5 .left;
-      vmsa-fits = fit .0;
-      calling-fits = fit .1;
-      pool-fits = fit-pool (b .table) _ (sym (c .before .before .before .lacks-page .ensures) ∙ c .before .before .if6 .left);
+      pages = pages-tested _ _ tested;
+      most = sizes _ _ (memory-tested _ _ tested) .most;
+      sized = sheet-tested _ _ tested;
+      below = at-if5 .if5 .left;
+      vmsa-fits = pages .0;
+      calling-fits = pages .1;
+      pool-fits = fit-pool _ _ (sym (at-if6 .before .lacks-page .ensures) ∙ at-if6 .if6 .left);
     }
 
 same-length-8 : tie.Need-same-length-8
@@ -133,14 +130,9 @@ same-length-9 c = search needs
 returns-7 : tie.Need-returns-7
 unfolding records
 returns-7 c =
-    let a = c .before .before .before .before .before .before .before .before .before .before .before .before .before .before .before .before .before .before .before .before .before .before .before .before .args in
-    let b : Buffers = record { memory = now (a .memory); table = now (a .table); sheet = now (a .sheet) } in
-    let tested = c .before .before .before .before .before .before .before .before .before .before .before .before .before .before .before .before .before .before .before .before .before .before .before .before .pre in
-    let pages = sym (c .before .before .before .before .before .before .before .before .before .before .before .before .before .before .before .before .before .unfit-pages .ensures) ∙ c .before .before .before .before .before .before .before .before .before .before .before .before .before .before .before .before .if3 .left in
-    let vcpu = sym (c .before .before .before .before .before .before .before .before .before .before .before .before .before .before .unfit-vcpu .ensures) ∙ c .before .before .before .before .before .before .before .before .before .before .before .before .before .if4 .left in
-    let rows = rows-tested b (a .caller) tested in
-    done (a .caller) (a .rcx) (a .rdx) (a .r8) b (c .before .before .before .before .before .before .before .before .before .before .before .before .before .before .before .before .before .before .before .before .if1 .left) (c .before .before .before .before .before .before .before .before .before .before .before .before .before .before .before .before .before .before .before .if2 .left) pages vcpu _ (c .before .before .before .before .before .before .before .before .before .before .before .free-record .ensures) (rw rows (c .before .before .before .before .before .before .before .before .before .before .if5 .left)) _ (sym (c .before .before .before .before .before .before .before .before .lacks-page .ensures) ∙ c .before .before .before .before .before .before .before .if6 .left)
-    (c .before .before .before .before .make .ensures)
+    let at-table = c .before .before .before in let at-make = at-table .before in let at-if6 = at-make .before .before .before in
+    let at-if5 = else5 (at-if6 .before) in let at-if4 = else4 (at-if5 .before) in
+    done _ _ _ _ _ (passed at-if4) (at-if5 .before .free-record .ensures) (rw (rows-tested _ _ (start4 at-if4 .pre)) (at-if5 .if5 .left)) (sym (at-if6 .before .lacks-page .ensures) ∙ at-if6 .if6 .left) (at-make .make .ensures)
 
 pub create-spec : {M : Type 1} → statement M
 create-spec =

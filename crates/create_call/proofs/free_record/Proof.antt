@@ -36,12 +36,7 @@ byte-requires c κs = at (record { sized = c .before .before .before .pre; below
 
 returns : tie.Need-returns Inv-loop μ-loop
 unfolding is-live fields record-size
-returns c =
-    let start = c .before .before .before .before .before in
-    let l = c .before .before .before .loop in
-    let sheet = now (start .args .sheet) in
-    let rows = parts record-size sheet in
-    sym (lowest-is dead rows (l .i) [] (rw (← c .before .byte .ensures, ne-eqb _ 1 (c .if1 .taken))) (l .inv .1))
+returns c = let at-loop = c .before .before .before in sym (lowest-is _ _ (at-loop .loop .i) [] (rw (← c .before .byte .ensures, ne-eqb _ 1 (c .if1 .taken))) (at-loop .loop .inv .1))
 
 add-i : tie.Need-add-i Inv-loop μ-loop
 add-i c = omega arith
@@ -52,21 +47,16 @@ loop-less c = omega arith
 loop-again : tie.Need-loop-again Inv-loop μ-loop
 unfolding is-live fields record-size
 loop-again c =
-    let start = c .before .before .before .before .before in
-    let l = c .before .before .before .loop in
-    let sheet = now (start .args .sheet) in
-    let rows = parts record-size sheet in
-    (omega arith, below-more (λ j. dead (getD rows j []) ≡ false) (l .i) (l .inv .1) (rw (← c .before .byte .ensures, eq-eqb _ 1 (c .if1 .left))))
+    let at-loop = c .before .before .before in
+    (omega arith, below-more _ (at-loop .loop .i) (at-loop .loop .inv .1) (rw (← c .before .byte .ensures, eq-eqb _ 1 (c .if1 .left))))
 
 returns-2 : tie.Need-returns-2 Inv-loop μ-loop
 unfolding records record-size
 returns-2 c =
-    let start = c .before .before .before in
-    let l = c .before .loop in
-    let sheet = now (start .args .sheet) in
-    let rows = parts record-size sheet in
-    let all : l .i ≡ length rows = omega (arith, rows-of sheet (start .pre)) in
-    all ∙ sym (lowest-none dead rows [] (λ j h. l .inv .1 j (omega (arith, all))))
+    let at-loop = c .before in let at-start = at-loop .before .before in
+    let sheet = now (at-start .args .sheet) in
+    let all : at-loop .loop .i ≡ length (parts record-size sheet) = omega (arith, rows-of sheet (at-start .pre)) in
+    all ∙ sym (lowest-none _ _ [] (λ j h. at-loop .loop .inv .1 j (omega (arith, all))))
 
 pub free-record-spec : {M : Type 1} → statement M
 free-record-spec =

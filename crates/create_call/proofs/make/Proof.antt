@@ -6,11 +6,10 @@ use Prim.Native.Nat.{ℕ, _<_, _≤_}
 use mathlib.Core.Bool.{true, cond}
 use mathlib.Core.List.{List}
 use lib.ListN.{length}
-use denote.Ref.{now}
 use Rattle.rules.specs.Words.{most-pages, lowest}
 use Rattle.rules.specs.Machine.{needs-page, page-at}
-use Rattle.rules.specs.Calls.{Asked, is-free, new-record, free-page}
-use Rattle.rules.specs.Flat.{Buffers, parted}
+use Rattle.rules.specs.Calls.{is-free, new-record, free-page}
+use Rattle.rules.specs.Flat.{parted}
 use Rattle.laws.proofs.Ranges.{by-test}
 use Rattle.create_call.proofs.Made.{table-alone, all-made}
 use borrow.Author.Needs.{needs}
@@ -21,6 +20,13 @@ pool-small : (i pool : ℕ) (table : List ℕ) → length table ≤ most-pages �
     → pool ≡ cond (needs-page i) (lowest is-free table) 0 → pool < 4294967296
 unfolding most-pages
 pool-small i pool table most h e = by-test (needs-page i) (λ t. rw (e, t) (omega (arith, h t, most))) (λ t. rw (e, t) (omega arith))
+
+-- where the pool page is known, and where the function began
+abbrev pooled : tie.After-holding-of → tie.After-pool-page
+pooled c = c .before .before
+
+abbrev start : tie.After-holding-of → tie.Start
+start c = let at-known = pooled c .before .before in at-known .before .before .before
 
 pool-page-requires : tie.Need-pool-page-requires
 pool-page-requires c κs = search needs
@@ -33,21 +39,18 @@ holding-of-requires c κs = search needs
 
 cast-t14 : tie.Need-cast-t14
 unfolding most-pages
-cast-t14 c = omega (arith, c .before .before .before .before .before .before .before .pre .vmsa-fits, c .before .before .before .before .before .before .before .pre .most)
+cast-t14 c = omega (arith, start c .pre .vmsa-fits, start c .pre .most)
 
 cast-t15 : tie.Need-cast-t15
 unfolding most-pages
-cast-t15 c = omega (arith, c .before .before .before .before .before .before .before .pre .calling-fits, c .before .before .before .before .before .before .before .pre .most)
+cast-t15 c = omega (arith, start c .pre .calling-fits, start c .pre .most)
 
 cast-t16 : tie.Need-cast-t16
-cast-t16 c =
-    let small = pool-small (c .before .before .before .before .before .before .before .args .i) (c .before .before .pool-page .result) (now (c .before .before .before .before .before .before .before .args .table)) (c .before .before .before .before .before .before .before .pre .most) (c .before .before .before .before .before .before .before .pre .pool-fits) (c .before .before .pool-page .ensures) in
-    omega arith
+cast-t16 c = let small = pool-small _ _ _ (start c .pre .most) (start c .pre .pool-fits) (pooled c .pool-page .ensures) in omega arith
 
 mark-pages-requires : tie.Need-mark-pages-requires
 mark-pages-requires c κs =
-    let f = c .before .before .before .before .before .before .before .before .pre in
-    let e = c .before .before .before .pool-page .ensures in
+    let f = start (c .before) .pre in let e = pooled (c .before) .pool-page .ensures in
     record { vmsa-below = f .vmsa-fits; calling-below = f .calling-fits; pool-below = λ t. rw (e, t) (f .pool-fits t); pool-is = e }
 
 put-record-requires : tie.Need-put-record-requires
@@ -62,11 +65,10 @@ same-length-2 c = search needs
 returns : tie.Need-returns
 unfolding parted new-record page-at free-page
 returns c =
-    let a = c .before .before .before .before .before .before .before .before .before .before .before .before .before .before .before .args in
-    let b : Buffers = record { memory = now (a .memory); table = now (a .table); sheet = now (a .sheet) } in
-    let asked : Asked = record { caller-vmpl = 0; vmsa = a .vmsa; calling = a .calling; apic = a .apic } in
-    all-made asked (a .i) (parted b) _ _ _ refl (c .before .before .before .before .before .before .mark-pages .ensures ∙ table-alone asked (a .i) (parted b))
-    (c .before .before .put-record .ensures ∙ rw (c .before .before .before .before .before .before .before .before .before .vmpl-of .ensures, c .before .before .before .before .before .before .before .before .holding-of .ensures, c .before .before .before .before .before .before .before .before .before .before .pool-page .ensures))
+    let at-put-record = c .before .before in let at-table = at-put-record .before .before .before in
+    let at-mark-pages = at-table .before in let at-holding-of = at-mark-pages .before .before in
+    all-made _ _ _ _ _ _ refl (at-mark-pages .mark-pages .ensures ∙ table-alone _ _ _)
+    (at-put-record .put-record .ensures ∙ rw (at-holding-of .before .vmpl-of .ensures, at-holding-of .holding-of .ensures, pooled at-holding-of .pool-page .ensures))
 
 pub make-spec : {M : Type 1} → statement M
 make-spec =

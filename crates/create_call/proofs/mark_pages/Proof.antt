@@ -1,7 +1,6 @@
 -- `create_call::mark_pages` meets its contract: the changes of the table, in the definition's order.
 -- Assumes nothing.
 use mathlib.Core.Path.{_≡_, _∙_, ap}
-use mathlib.Core.List.{[]}
 use lib.ListN.{getD, length-set}
 use denote.Ref.{now}
 use Rattle.rules.specs.Machine.{own, revoke}
@@ -9,6 +8,13 @@ use Rattle.create_call.proofs.Made.{table-made}
 use borrow.Author.Needs.{needs}
 use Rattle.create_call.proofs.mark_pages.Statement.{statement}
 use Rattle.create_call.proofs.mark_pages.Tie as tie
+
+-- where the function began, and where the VMSA page's byte is known
+abbrev start : tie.After-revoked → tie.Start
+start c = c .before .before .before
+
+abbrev owned : tie.After-owned2 → tie.After-owned
+owned c = c .before .before
 
 slice-read-b : tie.Need-slice-read-b
 slice-read-b c = search needs
@@ -32,19 +38,17 @@ slice-write-table-2 : tie.Need-slice-write-table-2
 slice-write-table-2 c = search needs
 
 mark-pool-requires : tie.Need-mark-pool-requires
-mark-pool-requires c κs = λ n. simp length-set (c .before .before .before .before .before .before .before .pre .pool-below n)
+mark-pool-requires c κs = λ n. simp length-set (start (owned (c .before) .before) .pre .pool-below n)
 
 same-length : tie.Need-same-length
 same-length c = c .before .before .mark-pool .kept .0 ∙ simp length-set
 
 returns : tie.Need-returns
 returns c =
-    let a = c .before .before .before .before .before .before .before .before .before .before .args in
-    let table = now (a .table) in
-    let first : c .before .before .before .before .before .before .owned .result ≡ own 5 (revoke (getD table (a .vmsa) 0)) = c .before .before .before .before .before .before .owned .ensures ∙ ap (own 5) (c .before .before .before .before .before .before .before .revoked .ensures) in
-    c .before .before .mark-pool .ensures ∙ rw (c .before .before .before .before .owned2 .ensures, first)
-    (table-made (record { caller-vmpl = 0; vmsa = a .vmsa; calling = a .calling; apic = 0 }) (a .i)
-    (record { memory = []; table = table; sheet = [] }) (a .pool) (c .before .before .before .before .before .before .before .before .before .before .pre .pool-is))
+    let at-mark-pool = c .before .before in let at-owned2 = at-mark-pool .before .before in let at-owned = owned at-owned2 in
+    let at-start = start (at-owned .before) in let a = at-start .args in let table = now (a .table) in
+    let first : at-owned .owned .result ≡ own 5 (revoke (getD table (a .vmsa) 0)) = at-owned .owned .ensures ∙ ap (own 5) (at-owned .before .revoked .ensures) in
+    at-mark-pool .mark-pool .ensures ∙ rw (at-owned2 .owned2 .ensures, first) (table-made _ _ _ _ (at-start .pre .pool-is))
 
 pub mark-pages-spec : {M : Type 1} → statement M
 mark-pages-spec =

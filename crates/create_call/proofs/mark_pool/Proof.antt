@@ -9,13 +9,13 @@ needs-page-requires : tie.Need-needs-page-requires
 needs-page-requires c κs = search needs
 
 slice-read-owned : tie.Need-slice-read-owned
-slice-read-owned c = c .before .before .before .before .pre (sym (c .before .before .needs-page .ensures) ∙ c .before .if1 .taken)
+slice-read-owned c = let at-if1 = c .before in at-if1 .before .before .before .pre (sym (at-if1 .before .needs-page .ensures) ∙ at-if1 .if1 .taken)
 
 owned-requires : tie.Need-owned-requires
 owned-requires c κs = search needs
 
 slice-write-table : tie.Need-slice-write-table
-slice-write-table c = c .before .before .before .before .before .pre (sym (c .before .before .before .needs-page .ensures) ∙ c .before .before .if1 .taken)
+slice-write-table c = let at-if1 = c .before .before in at-if1 .before .before .before .pre (sym (at-if1 .before .needs-page .ensures) ∙ at-if1 .if1 .taken)
 
 same-length : tie.Need-same-length
 same-length c = search needs

@@ -25,7 +25,7 @@ owner-of-requires c κs = search needs
 
 returns-3 : tie.Need-returns-3
 unfolding unfit-page
-returns-3 c = rw (lt-ltb _ _ (c .before .before .before .before .if1 .left), ← c .before .before .is-valid .ensures, not-false (c .before .before .is-valid .result) (c .before .if2 .left), ← c .owner-of .ensures)
+returns-3 c = let at-is-valid = c .before .before in rw (lt-ltb _ _ (at-is-valid .before .before .if1 .left), ← at-is-valid .is-valid .ensures, not-false (at-is-valid .is-valid .result) (c .before .if2 .left), ← c .owner-of .ensures)
 
 pub unfit-page-spec : {M : Type 1} → statement M
 unfit-page-spec =

@@ -1,17 +1,35 @@
 -- `create_call::unfit_vcpu` meets its contract: each return follows the definition's tests in their order.
 -- Assumes nothing.
-use mathlib.Core.Path.{sym, _∙_}
+use mathlib.Core.Path.{_≡_, sym, _∙_}
+use mathlib.Core.Bool.{false, _||_}
+use mathlib.Core.List.{[]}
 use native.Mathlib.Omega.{arith}
-use lib.Dec.{lit<, lit≤}
+use lib.Dec.{ltb, lit<, lit≤}
+use lib.ListN.{getD}
+use denote.Ref.{now}
 use borrow.Author.Tests.{lt-ltb, le-ltb, eq-eqb, ne-eqb}
 use Rattle.rules.specs.Words.{page-size, records, record-size}
-use Rattle.rules.specs.Machine.{page-at, startup, vcpu, record-at, fields}
+use Rattle.rules.specs.Machine.{page-at, startup, vcpu, record-at, fields, vmsa-vmpl}
+use Rattle.rules.specs.Launch.{unfit-vmsa}
 use Rattle.rules.specs.Calls.{unfit-vcpu}
-use Rattle.rules.specs.Flat.{parted}
+use Rattle.rules.specs.Flat.{parts, parted}
+use Rattle.sheet.specs.Row.{vcpu-in}
 use Rattle.sheet.proofs.At.{at}
 use borrow.Author.Needs.{needs}
 use Rattle.create_call.proofs.unfit_vcpu.Statement.{statement}
 use Rattle.create_call.proofs.unfit_vcpu.Tie as tie
+
+abbrev start : tie.Else1 → tie.Start
+start c = let at-is-unfit = c .before in at-is-unfit .before .before .before
+
+-- what the first two tests have shown of the page, once they are passed
+not-below : (c : tie.Else2) → let s = start (c .before .before .before) in let page = getD (parts page-size (now (s .args .memory))) (s .args .vmsa) [] in
+    (unfit-vmsa page || ltb (vmsa-vmpl page) (vcpu-in (now (s .args .sheet)) (s .args .caller) .vmpl)) ≡ false
+unfolding fields record-size page-size
+not-below c =
+    let at-byte = c .before in let at-vmpl = at-byte .before in let at-if1 = at-vmpl .before in
+    let not-less = le-ltb (at-vmpl .vmpl-of .result) (at-byte .byte .result) (omega (arith, c .if2 .left)) in
+    rw (sym (at-if1 .before .is-unfit .ensures) ∙ at-if1 .if1 .left, ← at-vmpl .vmpl-of .ensures, ← at-byte .byte .ensures, not-less)
 
 is-unfit-requires : tie.Need-is-unfit-requires
 is-unfit-requires c κs = search needs
@@ -24,31 +42,27 @@ vmpl-of-requires : tie.Need-vmpl-of-requires
 vmpl-of-requires c κs = search needs
 
 byte-requires : tie.Need-byte-requires
-byte-requires c κs = at (record { sized = c .before .before .before .before .before .pre .whole; below = c .before .before .before .before .before .pre .told }) 1 1 (lit≤ tt)
+byte-requires c κs = let told = start (c .before) .pre in at (record { sized = told .whole; below = told .told }) 1 1 (lit≤ tt)
 
 returns-2 : tie.Need-returns-2
 unfolding unfit-vcpu page-at startup vcpu record-at parted fields page-size record-size
-returns-2 c = rw (sym (c .before .before .before .before .is-unfit .ensures) ∙ c .before .before .before .if1 .left, ← c .before .before .vmpl-of .ensures, ← c .before .byte .ensures, lt-ltb (c .before .before .vmpl-of .result) (c .before .byte .result) (omega (arith, c .if2 .taken)))
+returns-2 c =
+    let at-byte = c .before in let at-vmpl = at-byte .before in let at-if1 = at-vmpl .before in
+    let less = lt-ltb (at-vmpl .vmpl-of .result) (at-byte .byte .result) (omega (arith, c .if2 .taken)) in
+    rw (sym (at-if1 .before .is-unfit .ensures) ∙ at-if1 .if1 .left, ← at-vmpl .vmpl-of .ensures, ← at-byte .byte .ensures, less)
 
 features-of-requires : tie.Need-features-of-requires
 features-of-requires c κs = search needs
 
 number8-requires : tie.Need-number8-requires
 unfolding records
-number8-requires c κs = at (record { sized = c .before .before .before .before .before .before .before .before .pre .whole; below = lit< tt }) 24 8 (lit≤ tt)
+number8-requires c κs = let at-if2 = c .before in at (record { sized = start (at-if2 .before .before .before) .pre .whole; below = lit< tt }) 24 8 (lit≤ tt)
 
 returns-3 : tie.Need-returns-3
 unfolding unfit-vcpu page-at startup vcpu record-at parted fields page-size record-size
 returns-3 c =
-    rw (
-      sym (c .before .before .before .before .before .before .before .is-unfit .ensures) ∙ c .before .before .before .before .before .before .if1 .left,
-      ← c .before .before .before .before .before .vmpl-of .ensures,
-      ← c .before .before .before .before .byte .ensures,
-      le-ltb (c .before .before .before .before .before .vmpl-of .result) (c .before .before .before .before .byte .result) (omega (arith, c .before .before .before .if2 .left)),
-      ← c .before .before .features-of .ensures,
-      ← c .before .number8 .ensures,
-      ne-eqb _ _ (c .if3 .taken),
-    )
+    let at-features = c .before .before in
+    rw (not-below (at-features .before), ← at-features .features-of .ensures, ← c .before .number8 .ensures, ne-eqb _ _ (c .if3 .taken))
 
 apic-in-use-requires : tie.Need-apic-in-use-requires
 apic-in-use-requires c κs = search needs
@@ -56,15 +70,8 @@ apic-in-use-requires c κs = search needs
 returns-4 : tie.Need-returns-4
 unfolding unfit-vcpu page-at startup vcpu record-at parted fields page-size record-size
 returns-4 c =
-    rw (
-      sym (c .before .before .before .before .before .before .before .before .is-unfit .ensures) ∙ c .before .before .before .before .before .before .before .if1 .left,
-      ← c .before .before .before .before .before .before .vmpl-of .ensures,
-      ← c .before .before .before .before .before .byte .ensures,
-      le-ltb (c .before .before .before .before .before .before .vmpl-of .result) (c .before .before .before .before .before .byte .result) (omega (arith, c .before .before .before .before .if2 .left)),
-      ← c .before .before .before .features-of .ensures,
-      ← c .before .before .number8 .ensures,
-      eq-eqb _ _ (c .before .if3 .left),
-    ) (c .apic-in-use .ensures)
+    let at-number8 = c .before .before in let at-features = at-number8 .before in
+    rw (not-below (at-features .before), ← at-features .features-of .ensures, ← at-number8 .number8 .ensures, eq-eqb _ _ (c .before .if3 .left)) (c .apic-in-use .ensures)
 
 pub unfit-vcpu-spec : {M : Type 1} → statement M
 unfit-vcpu-spec =
