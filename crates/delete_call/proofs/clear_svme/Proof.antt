@@ -15,14 +15,14 @@ without-svme-requires c κs = search needs
 
 put-number8-requires : tie.Need-put-number8-requires
 unfolding page-size
-put-number8-requires c κs = record { some = lit< tt; below = c .before .before .before .before .before .pre; within = lit≤ tt }
+put-number8-requires c κs = let at-efer = c .before .before in record { some = lit< tt; below = at-efer .before .before .before .pre; within = lit≤ tt }
 
 same-length : tie.Need-same-length
 same-length c = search needs
 
 returns : tie.Need-returns
 unfolding page-size
-returns c = c .before .before .put-number8 .ensures ∙ rw (c .before .before .before .without-svme .ensures, c .before .before .before .before .before .efer-of .ensures)
+returns c = let at-without = c .before .before .before in c .before .before .put-number8 .ensures ∙ rw (at-without .without-svme .ensures, at-without .before .before .efer-of .ensures)
 
 pub clear-svme-spec : {M : Type 1} → statement M
 clear-svme-spec =

@@ -1,18 +1,18 @@
 -- `delete_call::delete` meets its contract: each refusal is the definition's, in its order, and what is done is the definition's.
 -- Assumes nothing.
 use mathlib.Core.Path.{_≡_, sym, _∙_, ap}
-use mathlib.Core.Bool.{Bool, true, _&&_, and-eq-true-iff}
+use mathlib.Core.Bool.{Bool, true, false, not, _&&_, _||_, and-eq-true-iff}
 use mathlib.Core.List.{List, []}
 use Prim.Native.Nat.{ℕ, _<_}
 use native.Mathlib.Omega.{arith}
-use lib.Dec.{lit≤, eqb}
+use lib.Dec.{lit≤, leb, eqb}
 use lib.ListN.{length, getD}
 use denote.Ref.{now}
 use borrow.Author.Tests.{lt-leb, le-leb, lt-ltb, le-ltb, eq-eqb, ne-eqb}
 use Rattle.rules.specs.Words.{page-size, records, record-size, multiple, lowest}
 use Rattle.rules.specs.declared.Code.the-variants.{Success}
 use Rattle.rules.specs.Answers.{refuse}
-use Rattle.rules.specs.Machine.{page-of, vcpu, record-at, fields, is-live}
+use Rattle.rules.specs.Machine.{Lent, page-of, vcpu, record-at, fields, is-live}
 use Rattle.rules.specs.Calls.{named-by, delete}
 use Rattle.rules.specs.Flat.{Buffers, parts, parted}
 use Rattle.laws.proofs.Ranges.{lowest-passes}
@@ -23,9 +23,6 @@ use Rattle.sheet.proofs.At.{at}
 use borrow.Author.Needs.{needs}
 use Rattle.delete_call.proofs.delete.Statement.{statement}
 use Rattle.delete_call.proofs.delete.Tie as tie
-
-abbrev buffers : List ℕ → List ℕ → List ℕ → Buffers
-buffers memory table sheet = record { memory = memory; table = table; sheet = sheet }
 
 -- the record that is found is live, and so names pages below N
 cleared : (b : Buffers) (caller i page : ℕ) → Tested b caller → i < records → i ≡ named-by page (parted b) → Live b i
@@ -42,27 +39,43 @@ cleared b caller i page t h e =
       names = live-names b caller t i h live;
     }
 
+-- the places that others look back at: where the call began, and past the third test
+abbrev start : tie.After-named-by → tie.Start
+start c = let at-if1 = c .before .before in let at-known = at-if1 .before in at-known .before .before .before
+
+abbrev else3 : tie.After-byte2 → tie.Else3
+else3 c = let at-byte = c .before .before in at-byte .before .before
+
+abbrev named : tie.Else3 → tie.After-named-by
+named c = c .before .before
+
+abbrev machine : tie.After-named-by → Lent
+machine c = parted (record { memory = now (start c .args .memory); table = now (start c .args .table); sheet = now (start c .args .sheet) })
+
+-- the record that is found is the one that RCX means; and what the first three tests have shown of it, once they are passed
+found : (c : tie.After-named-by) → c .named-by .result ≡ named-by (page-of (start c .args .rcx)) (machine c)
+unfolding named-by page-of page-size parted
+found c = c .named-by .ensures ∙ ap (λ (p : ℕ). named-by p (machine c)) (omega arith)
+
+meant : (c : tie.Else3) → let i = named c .named-by .result in
+    (not (multiple page-size (start (named c) .args .rcx)) || leb (length (machine (named c) .sheet)) i || eqb i 0) ≡ false
+unfolding multiple page-size parted records
+meant c =
+    rw (eq-eqb _ 0 (named c .before .before .if1 .left), rows-tested _ _ (start (named c) .pre), lt-leb 16 _ (c .before .if2 .left), ne-eqb _ 0 (c .if3 .left))
+
 returns : tie.Need-returns
-unfolding delete refuse named-by page-of multiple page-size vcpu record-at parted records record-size
+unfolding delete refuse multiple page-size
 returns c = rw (ne-eqb _ 0 (c .if1 .taken))
 
 named-by-requires : tie.Need-named-by-requires
-named-by-requires c κs =
-    let start = c .before .before .before .before .before in
-    let b = buffers (now (start .args .memory)) (now (start .args .table)) (now (start .args .sheet)) in
-    sheet-tested b (start .args .caller) (start .pre)
+named-by-requires c κs = let at-known = c .before .before in sheet-tested _ _ (at-known .before .before .before .pre)
 
 same-length : tie.Need-same-length
 same-length c = search needs
 
 returns-2 : tie.Need-returns-2
 unfolding delete refuse named-by page-of multiple page-size vcpu record-at parted records record-size
-returns-2 c =
-    let start = c .before .before .before .before .before .before .before in
-    let b = buffers (now (start .args .memory)) (now (start .args .table)) (now (start .args .sheet)) in
-    let rows = rows-tested b (start .args .caller) (start .pre) in
-    let found : c .before .named-by .result ≡ named-by (page-of (start .args .rcx)) (parted b) = c .before .named-by .ensures ∙ ap (λ (p : ℕ). named-by p (parted b)) (omega arith) in
-    rw (eq-eqb _ 0 (c .before .before .before .if1 .left), ← found, rows, le-leb 16 _ (c .if2 .taken))
+returns-2 c = let at-found = c .before in rw (eq-eqb _ 0 (at-found .before .before .if1 .left), ← found at-found, rows-tested _ _ (start at-found .pre), le-leb 16 _ (c .if2 .taken))
 
 same-length-2 : tie.Need-same-length-2
 same-length-2 c = search needs
@@ -70,24 +83,17 @@ same-length-2 c = search needs
 returns-3 : tie.Need-returns-3
 unfolding delete refuse named-by page-of multiple page-size vcpu record-at parted records record-size
 returns-3 c =
-    let start = c .before .before .before .before .before .before .before .before in
-    let b = buffers (now (start .args .memory)) (now (start .args .table)) (now (start .args .sheet)) in
-    let rows = rows-tested b (start .args .caller) (start .pre) in
-    let found : c .before .before .named-by .result ≡ named-by (page-of (start .args .rcx)) (parted b) = c .before .before .named-by .ensures ∙ ap (λ (p : ℕ). named-by p (parted b)) (omega arith) in
-    rw (eq-eqb _ 0 (c .before .before .before .before .if1 .left), ← found, rows, lt-leb 16 _ (c .before .if2 .left), eq-eqb _ 0 (c .if3 .taken))
+    let at-if2 = c .before in let at-found = at-if2 .before in
+    rw (eq-eqb _ 0 (at-found .before .before .if1 .left), ← found at-found, rows-tested _ _ (start at-found .pre), lt-leb 16 _ (at-if2 .if2 .left), eq-eqb _ 0 (c .if3 .taken))
 
 byte-requires : tie.Need-byte-requires
-byte-requires c κs =
-    let start = c .before .before .before .before .before .before .before .before .before in
-    let b = buffers (now (start .args .memory)) (now (start .args .table)) (now (start .args .sheet)) in
-    at (record { sized = sheet-tested b (start .args .caller) (start .pre); below = caller-below b (start .args .caller) (start .pre) }) _ _ (lit≤ tt)
+byte-requires c κs = let tested = start (named (c .before)) .pre in at (record { sized = sheet-tested _ _ tested; below = caller-below _ _ tested }) _ _ (lit≤ tt)
 
 byte-requires-2 : tie.Need-byte-requires-2
 unfolding records
 byte-requires-2 c κs =
-    let start = c .before .before .before .before .before .before .before .before .before .before .before in
-    let b = buffers (now (start .args .memory)) (now (start .args .table)) (now (start .args .sheet)) in
-    at (record { sized = sheet-tested b (start .args .caller) (start .pre); below = c .before .before .before .before .if2 .left }) _ _ (lit≤ tt)
+    let at-byte = c .before in let at-if3 = at-byte .before .before in
+    at (record { sized = sheet-tested _ _ (start (named at-if3) .pre); below = at-if3 .before .if2 .left }) _ _ (lit≤ tt)
 
 same-length-3 : tie.Need-same-length-3
 same-length-3 c = search needs
@@ -95,18 +101,12 @@ same-length-3 c = search needs
 returns-4 : tie.Need-returns-4
 unfolding delete refuse named-by page-of multiple page-size vcpu record-at parted records record-size fields
 returns-4 c =
-    let start = c .before .before .before .before .before .before .before .before .before .before .before .before .before in
-    let b = buffers (now (start .args .memory)) (now (start .args .table)) (now (start .args .sheet)) in
-    let rows = rows-tested b (start .args .caller) (start .pre) in
-    let found : c .before .before .before .before .before .before .before .named-by .result ≡ named-by (page-of (start .args .rcx)) (parted b) = c .before .before .before .before .before .before .before .named-by .ensures ∙ ap (λ (p : ℕ). named-by p (parted b)) (omega arith) in
-    rw (eq-eqb _ 0 (c .before .before .before .before .before .before .before .before .before .if1 .left), ← found, rows, lt-leb 16 _ (c .before .before .before .before .before .before .if2 .left), ne-eqb _ 0 (c .before .before .before .before .before .if3 .left), ← c .before .before .before .byte .ensures, ← c .before .byte2 .ensures, lt-ltb _ _ (c .if4 .taken))
+    let at-byte2 = c .before in let at-if3 = else3 at-byte2 in
+    rw (← found (named at-if3), meant at-if3, ← at-byte2 .before .before .byte .ensures, ← at-byte2 .byte2 .ensures, lt-ltb _ _ (c .if4 .taken))
 
 in-use-requires : tie.Need-in-use-requires
 unfolding records
-in-use-requires c κs =
-    let start = c .before .before .before .before .before .before .before .before .before .before .before .before .before .before in
-    let b = buffers (now (start .args .memory)) (now (start .args .table)) (now (start .args .sheet)) in
-    record { sized = sheet-tested b (start .args .caller) (start .pre); below = c .before .before .before .before .before .before .before .if2 .left }
+in-use-requires c κs = let at-if3 = else3 (c .before .before) in record { sized = sheet-tested _ _ (start (named at-if3) .pre); below = at-if3 .before .if2 .left }
 
 same-length-4 : tie.Need-same-length-4
 same-length-4 c = search needs
@@ -114,19 +114,14 @@ same-length-4 c = search needs
 returns-5 : tie.Need-returns-5
 unfolding delete refuse named-by page-of multiple page-size vcpu record-at parted records record-size fields
 returns-5 c =
-    let start = c .before .before .before .before .before .before .before .before .before .before .before .before .before .before .before .before in
-    let b = buffers (now (start .args .memory)) (now (start .args .table)) (now (start .args .sheet)) in
-    let rows = rows-tested b (start .args .caller) (start .pre) in
-    let found : c .before .before .before .before .before .before .before .before .before .before .named-by .result ≡ named-by (page-of (start .args .rcx)) (parted b) = c .before .before .before .before .before .before .before .before .before .before .named-by .ensures ∙ ap (λ (p : ℕ). named-by p (parted b)) (omega arith) in
-    rw (eq-eqb _ 0 (c .before .before .before .before .before .before .before .before .before .before .before .before .if1 .left), ← found, rows, lt-leb 16 _ (c .before .before .before .before .before .before .before .before .before .if2 .left), ne-eqb _ 0 (c .before .before .before .before .before .before .before .before .if3 .left), ← c .before .before .before .before .before .before .byte .ensures, ← c .before .before .before .before .byte2 .ensures, le-ltb _ _ (c .before .before .before .if4 .left), ← c .before .in-use .ensures, c .if5 .taken)
+    let at-if4 = c .before .before .before in let at-byte2 = at-if4 .before in let at-if3 = else3 at-byte2 in
+    rw (← found (named at-if3), meant at-if3, ← at-byte2 .before .before .byte .ensures, ← at-byte2 .byte2 .ensures, le-ltb _ _ (at-if4 .if4 .left), ← c .before .in-use .ensures, c .if5 .taken)
 
 deleted-requires : tie.Need-deleted-requires
 unfolding named-by page-of page-size parted records
 deleted-requires c κs =
-    let start = c .before .before .before .before .before .before .before .before .before .before .before .before .before .before .before .before .before .before .before in
-    let b = buffers (now (start .args .memory)) (now (start .args .table)) (now (start .args .sheet)) in
-    let found : c .before .before .before .before .before .before .before .before .before .before .before .before .before .named-by .result ≡ named-by (page-of (start .args .rcx)) (parted b) = c .before .before .before .before .before .before .before .before .before .before .before .before .before .named-by .ensures ∙ ap (λ (p : ℕ). named-by p (parted b)) (omega arith) in
-    cleared b (start .args .caller) (c .before .before .before .before .before .before .before .before .before .before .before .before .before .named-by .result) _ (start .pre) (c .before .before .before .before .before .before .before .before .before .before .before .before .if2 .left) found
+    let at-if5 = c .before .before .before in let at-if4 = at-if5 .before .before .before in let at-if3 = else3 (at-if4 .before) in
+    cleared _ _ _ _ (start (named at-if3) .pre) (at-if3 .before .if2 .left) (found (named at-if3))
 
 same-length-5 : tie.Need-same-length-5
 same-length-5 c = search needs
@@ -140,12 +135,11 @@ same-length-7 c = search needs
 returns-6 : tie.Need-returns-6
 unfolding delete refuse named-by page-of multiple page-size vcpu record-at parted records record-size fields
 returns-6 c =
-    let start = c .before .before .before .before .before .before .before .before .before .before .before .before .before .before .before .before .before .before .before .before .before .before .before .before .before .before in
-    let b = buffers (now (start .args .memory)) (now (start .args .table)) (now (start .args .sheet)) in
-    let rows = rows-tested b (start .args .caller) (start .pre) in
-    let found : c .before .before .before .before .before .before .before .before .before .before .before .before .before .before .before .before .before .before .before .before .named-by .result ≡ named-by (page-of (start .args .rcx)) (parted b) = c .before .before .before .before .before .before .before .before .before .before .before .before .before .before .before .before .before .before .before .before .named-by .ensures ∙ ap (λ (p : ℕ). named-by p (parted b)) (omega arith) in
-    rw (eq-eqb _ 0 (c .before .before .before .before .before .before .before .before .before .before .before .before .before .before .before .before .before .before .before .before .before .before .if1 .left), ← found, rows, lt-leb 16 _ (c .before .before .before .before .before .before .before .before .before .before .before .before .before .before .before .before .before .before .before .if2 .left), ne-eqb _ 0 (c .before .before .before .before .before .before .before .before .before .before .before .before .before .before .before .before .before .before .if3 .left), ← c .before .before .before .before .before .before .before .before .before .before .before .before .before .before .before .before .byte .ensures, ← c .before .before .before .before .before .before .before .before .before .before .before .before .before .before .byte2 .ensures, le-ltb _ _ (c .before .before .before .before .before .before .before .before .before .before .before .before .before .if4 .left), ← c .before .before .before .before .before .before .before .before .before .before .before .in-use .ensures, c .before .before .before .before .before .before .before .before .before .before .if5 .left)
-    (λ k. record { answer = Success; after = sym (c .before .before .before .before .before .before .deleted .ensures) k })
+    let at-table = c .before .before .before in let at-deleted = at-table .before .before .before in
+    let at-arg = at-deleted .before .before in let at-if5 = at-arg .before .before in
+    let at-if4 = at-if5 .before .before .before in let at-byte2 = at-if4 .before in let at-if3 = else3 at-byte2 in
+    rw (← found (named at-if3), meant at-if3, ← at-byte2 .before .before .byte .ensures, ← at-byte2 .byte2 .ensures, le-ltb _ _ (at-if4 .if4 .left), ← at-if5 .before .in-use .ensures, at-if5 .if5 .left)
+    (λ k. record { answer = Success; after = sym (at-deleted .deleted .ensures) k })
 
 pub delete-spec : {M : Type 1} → statement M
 delete-spec =

@@ -2,7 +2,8 @@
 -- Assumes nothing.
 use mathlib.Core.Path.{_∙_}
 use lib.Dec.{lit≤}
-use lib.ListN.{length-set}
+use Prim.Native.Nat.{_<_}
+use lib.ListN.{length, length-set}
 use denote.Ref.{now}
 use Rattle.rules.specs.Words.{record-size}
 use Rattle.rules.specs.Machine.{fields, holds, write, with-memory, page-at, change, put, table-byte, vcpu, record-at, amend}
@@ -15,25 +16,39 @@ use borrow.Author.Needs.{needs}
 use Rattle.delete_call.proofs.deleted.Statement.{statement}
 use Rattle.delete_call.proofs.deleted.Tie as tie
 
+-- the places that others look back at: where the function began, where both pages are known, and where the VMSA page's byte is read
+abbrev start : tie.After-number4-arg → tie.Start
+start c = let at-known = c .before in at-known .before .before .before
+
+abbrev read : tie.After-slice-known5 → tie.After-number42
+read c = let at-clear-svme = c .before .before .before in at-clear-svme .before .before
+
+abbrev reading : tie.After-slice-known6 → tie.After-slice-known5
+reading c = c .before .before .before
+
+-- both pages are below N
+below : (c : tie.After-number42) → let v = c .before .before in let n = length (now (start (v .before) .args .table)) in
+    (v .number4 .result < n) × (c .number42 .result < n)
+unfolding fields record-size
+below c = let v = c .before .before in let names = start (v .before) .pre .names in (rw (v .number4 .ensures) (names .vmsa), rw (c .number42 .ensures) (names .calling))
+
 number4-requires : tie.Need-number4-requires
-number4-requires c κs = at (c .before .before .before .before .pre .at) _ _ (lit≤ tt)
+number4-requires c κs = at (start c .pre .at) _ _ (lit≤ tt)
 
 cast-vmsa : tie.Need-cast-vmsa
 cast-vmsa c = search needs
 
 number4-requires-2 : tie.Need-number4-requires-2
-number4-requires-2 c κs = at (c .before .before .before .before .before .before .pre .at) _ _ (lit≤ tt)
+number4-requires-2 c κs = at (start (c .before .before) .pre .at) _ _ (lit≤ tt)
 
 cast-calling : tie.Need-cast-calling
 cast-calling c = search needs
 
 clear-svme-requires : tie.Need-clear-svme-requires
-unfolding fields record-size
-clear-svme-requires c κs = rw (c .before .before .before .before .before .before .before .before .pre .pages, c .before .before .before .number4 .ensures) (c .before .before .before .before .before .before .before .before .pre .names .vmsa)
+clear-svme-requires c κs = let at-number4 = c .before .before .before in rw (start (at-number4 .before) .pre .pages) (below (c .before) .0)
 
 slice-read-owned : tie.Need-slice-read-owned
-unfolding fields record-size
-slice-read-owned c = rw (c .before .before .before .before .before .before .before .number4 .ensures) (c .before .before .before .before .before .before .before .before .before .before .before .before .pre .names .vmsa)
+slice-read-owned c = below (read c) .0
 
 owned-requires : tie.Need-owned-requires
 owned-requires c κs = search needs
@@ -42,22 +57,21 @@ granted-requires : tie.Need-granted-requires
 granted-requires c κs = search needs
 
 slice-write-table : tie.Need-slice-write-table
-unfolding fields record-size
-slice-write-table c = rw (c .before .before .before .before .before .before .before .before .before .number4 .ensures) (c .before .before .before .before .before .before .before .before .before .before .before .before .before .before .pre .names .vmsa)
+slice-write-table c = below (read (c .before .before)) .0
 
 slice-read-owned-2 : tie.Need-slice-read-owned-2
-unfolding fields record-size
-slice-read-owned-2 c = rw (length-set, c .before .before .before .before .before .before .before .before .number42 .ensures) (c .before .before .before .before .before .before .before .before .before .before .before .before .before .before .before .pre .names .calling)
+slice-read-owned-2 c = rw length-set (below (read (reading c)) .1)
 
 owned-requires-2 : tie.Need-owned-requires-2
 owned-requires-2 c κs = search needs
 
 slice-write-table-2 : tie.Need-slice-write-table-2
-unfolding fields record-size
-slice-write-table-2 c = rw (length-set, c .before .before .before .before .before .before .before .before .before .number42 .ensures) (c .before .before .before .before .before .before .before .before .before .before .before .before .before .before .before .before .pre .names .calling)
+slice-write-table-2 c = rw length-set (below (read (reading (c .before))) .1)
 
 free-pool-requires : tie.Need-free-pool-requires
-free-pool-requires c κs = record { at = c .before .before .before .before .before .before .before .before .before .before .before .before .before .before .before .before .before .before .pre .at; pool = λ h. rw (length-set, length-set) (c .before .before .before .before .before .before .before .before .before .before .before .before .before .before .before .before .before .before .pre .names .pool h) }
+free-pool-requires c κs =
+    let at-owned2 = c .before .before in let at-number42 = read (reading (at-owned2 .before)) in let told = start (at-number42 .before .before .before) .pre in
+    record { at = told .at; pool = λ h. rw (length-set, length-set) (told .names .pool h) }
 
 clear-record-requires : tie.Need-clear-record-requires
 clear-record-requires c κs = search needs
@@ -66,7 +80,7 @@ same-length : tie.Need-same-length
 same-length c = search needs
 
 same-length-2 : tie.Need-same-length-2
-same-length-2 c = c .before .before .before .before .before .before .free-pool .kept .0 ∙ rw (length-set, length-set)
+same-length-2 c = let at-clear-record = c .before .before in let at-table = at-clear-record .before .before .before in at-table .before .free-pool .kept .0 ∙ rw (length-set, length-set)
 
 same-length-3 : tie.Need-same-length-3
 same-length-3 c = search needs
@@ -74,12 +88,14 @@ same-length-3 c = search needs
 returns : tie.Need-returns
 unfolding deleted clear-svme write with-memory page-at change put table-byte vcpu record-at amend fields parted record-size
 returns c =
-    let start = c .before .before .before .before .before .before .before .before .before .before .before .before .before .before .before .before .before .before .before .before .before .before .before .before .before in
-    let r = row (now (start .args .sheet)) (start .args .i) in
-    let memory = rw (c .before .before .before .before .before .before .before .before .before .before .before .before .before .before .before .before .before .before .before .before .number4 .ensures) at (c .before .before .before .before .before .before .before .before .before .before .before .before .before .before .before .before .clear-svme .ensures) in
-    let table = rw (c .before .before .before .before .before .before .before .before .before .owned2 .ensures, c .before .before .before .before .before .before .before .before .before .before .before .granted .ensures, c .before .before .before .before .before .before .before .before .before .before .before .before .owned .ensures, c .before .before .before .before .before .before .before .before .before .before .before .before .before .before .before .before .before .before .before .before .number4 .ensures, c .before .before .before .before .before .before .before .before .before .before .before .before .before .before .before .before .before .before .number42 .ensures) at (c .before .before .before .before .before .before .free-pool .ensures) in
-    let sheet = c .before .before .clear-record .ensures in
-    by-test (holds r)
+    let at-clear-record = c .before .before in let at-table = at-clear-record .before .before .before in let at-free-pool = at-table .before in
+    let at-owned2 = at-free-pool .before .before .before in let at-granted = at-owned2 .before .before in let at-owned = at-granted .before in
+    let at-known = at-owned .before in let at-clear-svme = at-known .before .before .before in
+    let at-number42 = at-clear-svme .before .before in let at-number4 = at-number42 .before .before in let at-start = start (at-number4 .before) in
+    let memory = rw (at-number4 .number4 .ensures) at (at-clear-svme .clear-svme .ensures) in
+    let table = rw (at-owned2 .owned2 .ensures, at-granted .granted .ensures, at-owned .owned .ensures, at-number4 .number4 .ensures, at-number42 .number42 .ensures) at (at-free-pool .free-pool .ensures) in
+    let sheet = at-clear-record .clear-record .ensures in
+    by-test (holds (row (now (at-start .args .sheet)) (at-start .args .i)))
     (λ t. let freed = rw t at table in rw t (λ k. record { memory = memory k; table = freed k; sheet = sheet k }))
     (λ t. let kept = rw t at table in rw t (λ k. record { memory = memory k; table = kept k; sheet = sheet k }))
 

@@ -1,7 +1,8 @@
 -- `delete_call::free_pool` meets its contract.
 -- Assumes nothing.
 use mathlib.Core.Path.{ap}
-use lib.ListN.{set}
+use Prim.Native.Nat.{_<_}
+use lib.ListN.{length, set}
 use denote.Ref.{now}
 use lib.Dec.{lit≤}
 use borrow.Author.Tests.{eq-eqb, ne-eqb}
@@ -12,25 +13,30 @@ use borrow.Author.Needs.{needs}
 use Rattle.delete_call.proofs.free_pool.Statement.{statement}
 use Rattle.delete_call.proofs.free_pool.Tie as tie
 
+-- the pool page is below N
+inside : (c : tie.After-number4) → let at-byte = c .before .before in c .number4 .result < length (now (at-byte .before .before .before .args .table))
+unfolding holds fields record-size
+inside c =
+    let at-if1 = c .before in let at-byte = at-if1 .before in
+    rw (c .number4 .ensures) (at-byte .before .before .before .pre .pool (rw (← at-byte .byte .ensures, eq-eqb _ 1 (at-if1 .if1 .taken))))
+
 byte-requires : tie.Need-byte-requires
 byte-requires c κs = at (c .before .before .pre .at) _ _ (lit≤ tt)
 
 number4-requires : tie.Need-number4-requires
-number4-requires c κs = at (c .before .before .before .before .pre .at) _ _ (lit≤ tt)
+number4-requires c κs = let at-byte = c .before in at (at-byte .before .before .before .pre .at) _ _ (lit≤ tt)
 
 cast-page : tie.Need-cast-page
 cast-page c = search needs
 
 slice-read-owned : tie.Need-slice-read-owned
-unfolding holds fields record-size
-slice-read-owned c = rw (c .before .number4 .ensures) (c .before .before .before .before .before .before .pre .pool (rw (← c .before .before .before .byte .ensures, eq-eqb _ 1 (c .before .before .if1 .taken))))
+slice-read-owned c = inside (c .before)
 
 owned-requires : tie.Need-owned-requires
 owned-requires c κs = search needs
 
 slice-write-table : tie.Need-slice-write-table
-unfolding holds fields record-size
-slice-write-table c = rw (c .before .before .number4 .ensures) (c .before .before .before .before .before .before .before .pre .pool (rw (← c .before .before .before .before .byte .ensures, eq-eqb _ 1 (c .before .before .before .if1 .taken))))
+slice-write-table c = inside (c .before .before)
 
 same-length : tie.Need-same-length
 same-length c = search needs
@@ -38,8 +44,8 @@ same-length c = search needs
 returns : tie.Need-returns
 unfolding holds fields record-size
 returns c =
-    let table = now (c .before .before .before .before .before .before .before .args .table) in
-    rw (← c .before .before .before .before .byte .ensures, eq-eqb _ 1 (c .before .before .before .if1 .taken), ← c .before .before .number4 .ensures) (ap (set table (c .before .before .number4 .result)) (c .owned .ensures))
+    let at-number4 = c .before .before in let at-if1 = at-number4 .before in let at-byte = at-if1 .before in
+    rw (← at-byte .byte .ensures, eq-eqb _ 1 (at-if1 .if1 .taken), ← at-number4 .number4 .ensures) (ap (set (now (at-byte .before .before .before .args .table)) (at-number4 .number4 .result)) (c .owned .ensures))
 
 returns-2 : tie.Need-returns-2
 unfolding holds fields record-size

@@ -36,12 +36,7 @@ unfolding records
 is-named-requires c κs = record { sized = c .before .before .before .pre; below = omega arith }
 
 returns : tie.Need-returns Inv-loop μ-loop
-returns c =
-    let start = c .before .before .before .before .before in
-    let sheet = now (start .args .sheet) in
-    let named = names (start .args .page) in
-    let l = c .before .before .before .loop in
-    sym (lowest-is named (parts record-size sheet) (l .i) [] (sym (c .before .is-named .ensures) ∙ c .if1 .taken) (l .inv .1))
+returns c = let at-loop = c .before .before .before in sym (lowest-is _ _ (at-loop .loop .i) [] (sym (c .before .is-named .ensures) ∙ c .if1 .taken) (at-loop .loop .inv .1))
 
 add-i : tie.Need-add-i Inv-loop μ-loop
 add-i c = omega arith
@@ -50,23 +45,15 @@ loop-less : tie.Need-loop-less Inv-loop μ-loop
 loop-less c = omega arith
 
 loop-again : tie.Need-loop-again Inv-loop μ-loop
-loop-again c =
-    let start = c .before .before .before .before .before in
-    let sheet = now (start .args .sheet) in
-    let named = names (start .args .page) in
-    let l = c .before .before .before .loop in
-    (omega arith, below-more (λ j. named (row sheet j) ≡ false) (l .i) (l .inv .1) (sym (c .before .is-named .ensures) ∙ c .if1 .left))
+loop-again c = let at-loop = c .before .before .before in (omega arith, below-more _ (at-loop .loop .i) (at-loop .loop .inv .1) (sym (c .before .is-named .ensures) ∙ c .if1 .left))
 
 returns-2 : tie.Need-returns-2 Inv-loop μ-loop
 unfolding records record-size
 returns-2 c =
-    let start = c .before .before .before in
-    let sheet = now (start .args .sheet) in
-    let named = names (start .args .page) in
-    let l = c .before .loop in
-    let rows = rows-of sheet (start .pre) in
-    let all : l .i ≡ length (parts record-size sheet) = omega (arith, rows) in
-    all ∙ sym (lowest-none named (parts record-size sheet) [] (λ j h. l .inv .1 j (omega (arith, rows))))
+    let at-loop = c .before in let at-start = at-loop .before .before in
+    let sheet = now (at-start .args .sheet) in let rows = rows-of sheet (at-start .pre) in
+    let all : at-loop .loop .i ≡ length (parts record-size sheet) = omega (arith, rows) in
+    all ∙ sym (lowest-none _ _ [] (λ j h. at-loop .loop .inv .1 j (omega (arith, rows))))
 
 pub named-by-spec : {M : Type 1} → statement M
 named-by-spec =
