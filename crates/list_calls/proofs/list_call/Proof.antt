@@ -1,7 +1,8 @@
 -- `list_calls::list_call` meets its contract: each check of the head in its order, and the run over the budget of entries.
 -- Assumes nothing.
 use mathlib.Core.Path.{_≡_, _∙_}
-use Prim.Native.Nat.{_+_, _*_, _/_, _%_, _<_}
+use mathlib.Core.Bool.{true, false}
+use Prim.Native.Nat.{_+_, _*_, _<_}
 use native.Mathlib.Omega.{arith}
 use borrow.Author.Tests.{lt-leb, le-leb, lt-ltb, le-ltb, eq-eqb, ne-eqb}
 use lib.Dec.{lit<, lit≤}
@@ -9,9 +10,9 @@ use lib.ListN.{length}
 use denote.Ref.{now}
 use Rattle.rules.specs.Words.{multiple, page-size, record-size, entries-a-call}
 use Rattle.rules.specs.Answers.{refuse}
-use Rattle.rules.specs.Machine.{page-of, offset-of}
-use Rattle.rules.specs.Lists.{bad-count, bad-next, run-within, list-call}
-use Rattle.rules.specs.Flat.{Buffers, parted}
+use Rattle.rules.specs.Machine.{Lent, vcpu, page-of, offset-of}
+use Rattle.rules.specs.Lists.{bad-list-page, list-count, list-next, bad-count, bad-next, run-within, list-call}
+use Rattle.rules.specs.Flat.{Buffers, parts, parted}
 use Rattle.laws.proofs.Tested.{pages-tested, rows-tested, caller-below}
 use Rattle.lists.proofs.Page.{vmpl-is, bad-page-is, page-within}
 use Rattle.list_calls.proofs.Entries.{count-is, next-is}
@@ -19,18 +20,70 @@ use borrow.Author.Needs.{needs}
 use Rattle.list_calls.proofs.list_call.Statement.{statement}
 use Rattle.list_calls.proofs.list_call.Tie as tie
 
+abbrev buffers : tie.Start → Buffers
+buffers s = record { memory = now (s .args .memory); table = now (s .args .table); sheet = now (s .args .sheet) }
+
+abbrev lent : tie.Start → Lent
+lent s = parted (buffers s)
+
+-- the way back, each place by the one before it
+abbrev start₁ : tie.Else1 → tie.Start
+start₁ c = let known = c .before in known .before .before .before
+
+abbrev start₂ : tie.After-bad-list-page → tie.Start
+start₂ c = start₁ (c .before .before .before)
+
+abbrev at-page : tie.After-number2 → tie.After-bad-list-page
+at-page c = c .before .before .before
+
+abbrev start₃ : tie.After-number2 → tie.Start
+start₃ c = start₂ (at-page c)
+
+abbrev at-count : tie.Else4 → tie.After-number2
+at-count c = c .before .before
+
+abbrev else₄ : tie.After-number22 → tie.Else4
+else₄ c = c .before .before
+
+-- what each place knows, in the definition's words
+aligned : (c : tie.After-bad-list-page) → multiple 8 (start₂ c .args .rcx) ≡ true
+unfolding multiple
+aligned c = eq-eqb _ 0 (c .before .before .before .if1 .left)
+
+page-told : (c : tie.After-bad-list-page)
+    → bad-list-page (vcpu (lent (start₂ c)) (start₂ c .args .caller) .vmpl) (start₂ c .args .rcx) (lent (start₂ c)) ≡ c .bad-list-page .result
+unfolding record-size
+page-told c =
+    let a = start₂ c .args in
+    let byte = c .before .before .byte in
+    rw (vmpl-is (a .caller) (a .rcx) (buffers (start₂ c)) (byte .result) (byte .ensures)) (bad-page-is (a .caller) (a .rcx) (buffers (start₂ c)) _ _ (c .bad-list-page .ensures))
+
+page-inside : (c : tie.Else2) → page-of (start₂ (c .before) .args .rcx) < length (parts page-size (buffers (start₂ (c .before)) .memory))
+page-inside c = page-within _ _ (buffers (start₂ (c .before))) _ (start₂ (c .before) .pre) (page-told (c .before) ∙ c .if2 .left)
+
+count-told : (c : tie.After-number2) → list-count (start₃ c .args .rcx) (lent (start₃ c)) ≡ c .number2 .result
+unfolding page-of offset-of page-size
+count-told c = count-is (buffers (start₃ c)) _ _ (c .number2 .ensures)
+
+good-count : (c : tie.Else4) → bad-count (start₃ (at-count c) .args .rcx) (lent (start₃ (at-count c))) ≡ false
+unfolding bad-count offset-of page-size
+good-count c =
+    let end = offset-of (start₃ (at-count c) .args .rcx) + 8 + 8 * at-count c .number2 .result in
+    rw (count-told (at-count c), ne-eqb _ 0 (c .before .if3 .left), le-ltb page-size end (omega (arith, c .if4 .left)))
+
+next-told : (c : tie.After-number22) → list-next (start₃ (at-count (else₄ c)) .args .rcx) (lent (start₃ (at-count (else₄ c)))) ≡ c .number22 .result
+unfolding page-of offset-of page-size
+next-told c = next-is (buffers (start₃ (at-count (else₄ c)))) _ _ (c .number22 .ensures)
+
 returns : tie.Need-returns
-unfolding list-call refuse multiple bad-count bad-next page-of offset-of page-size record-size
+unfolding list-call refuse multiple
 returns c = rw (ne-eqb _ 0 (c .if1 .taken))
 
 byte-requires : tie.Need-byte-requires
 unfolding record-size
 byte-requires c κs =
-    let start = c .before .before .before .before in
-    let a = start .args in
-    let b : Buffers = record { memory = now (a .memory); table = now (a .table); sheet = now (a .sheet) } in
-    let t = start .pre in
-    record { some = lit< tt; below = rw (rows-tested b (a .caller) t) (caller-below b (a .caller) t); within = lit≤ tt }
+    let t = start₁ c .pre in
+    record { some = lit< tt; below = rw (rows-tested _ _ t) (caller-below _ _ t); within = lit≤ tt }
 
 bad-list-page-requires : tie.Need-bad-list-page-requires
 bad-list-page-requires c κs = search needs
@@ -39,27 +92,12 @@ same-length : tie.Need-same-length
 same-length c = search needs
 
 returns-2 : tie.Need-returns-2
-unfolding list-call refuse multiple bad-count bad-next page-of offset-of page-size record-size
-returns-2 c =
-    let start = c .before .before .before .before .before .before .before .before in
-    let a = start .args in
-    let b : Buffers = record { memory = now (a .memory); table = now (a .table); sheet = now (a .sheet) } in
-    let t = start .pre in
-    let vmpl = vmpl-is (a .caller) (a .rcx) b (c .before .before .before .byte .result) (c .before .before .before .byte .ensures) in
-    let test = bad-page-is (a .caller) (a .rcx) b (c .before .before .before .byte .result) _ (c .before .bad-list-page .ensures) in
-    rw (eq-eqb _ 0 (c .before .before .before .before .if1 .left), vmpl, test, c .if2 .taken)
+unfolding list-call refuse
+returns-2 c = rw (aligned (c .before), page-told (c .before), c .if2 .taken)
 
 number2-requires : tie.Need-number2-requires
-unfolding page-of page-size record-size
-number2-requires c κs =
-    let start = c .before .before .before .before .before .before .before .before .before in
-    let a = start .args in
-    let b : Buffers = record { memory = now (a .memory); table = now (a .table); sheet = now (a .sheet) } in
-    let t = start .pre in
-    let vmpl = vmpl-is (a .caller) (a .rcx) b (c .before .before .before .before .byte .result) (c .before .before .before .before .byte .ensures) in
-    let test = bad-page-is (a .caller) (a .rcx) b (c .before .before .before .before .byte .result) _ (c .before .before .bad-list-page .ensures) in
-    let below = page-within (a .caller) (a .rcx) b (c .before .before .before .before .byte .result) t (test ∙ c .before .if2 .left) in
-    record { some = lit< tt; below = below; within = omega arith }
+unfolding page-of page-size
+number2-requires c κs = record { some = lit< tt; below = page-inside (c .before); within = omega arith }
 
 cast-count : tie.Need-cast-count
 cast-count c = search needs
@@ -71,16 +109,8 @@ same-length-3 : tie.Need-same-length-3
 same-length-3 c = search needs
 
 returns-3 : tie.Need-returns-3
-unfolding list-call refuse multiple bad-count bad-next page-of offset-of page-size record-size
-returns-3 c =
-    let start = c .before .before .before .before .before .before .before .before .before .before .before in
-    let a = start .args in
-    let b : Buffers = record { memory = now (a .memory); table = now (a .table); sheet = now (a .sheet) } in
-    let t = start .pre in
-    let vmpl = vmpl-is (a .caller) (a .rcx) b (c .before .before .before .before .before .before .byte .result) (c .before .before .before .before .before .before .byte .ensures) in
-    let test = bad-page-is (a .caller) (a .rcx) b (c .before .before .before .before .before .before .byte .result) _ (c .before .before .before .before .bad-list-page .ensures) in
-    let count = count-is b (a .rcx) (c .before .number2 .result) (c .before .number2 .ensures) in
-    rw (eq-eqb _ 0 (c .before .before .before .before .before .before .before .if1 .left), vmpl, test, c .before .before .before .if2 .left, count, eq-eqb _ 0 (c .if3 .taken))
+unfolding list-call refuse bad-count
+returns-3 c = rw (aligned (at-page (c .before)), page-told (at-page (c .before)) ∙ c .before .before .before .if2 .left, count-told (c .before), eq-eqb _ 0 (c .if3 .taken))
 
 add-if4 : tie.Need-add-if4
 add-if4 c = search needs
@@ -98,31 +128,18 @@ same-length-5 : tie.Need-same-length-5
 same-length-5 c = search needs
 
 returns-4 : tie.Need-returns-4
-unfolding list-call refuse multiple bad-count bad-next page-of offset-of page-size record-size
+unfolding list-call refuse bad-count offset-of page-size
 returns-4 c =
-    let start = c .before .before .before .before .before .before .before .before .before .before .before .before in
-    let a = start .args in
-    let b : Buffers = record { memory = now (a .memory); table = now (a .table); sheet = now (a .sheet) } in
-    let t = start .pre in
-    let vmpl = vmpl-is (a .caller) (a .rcx) b (c .before .before .before .before .before .before .before .byte .result) (c .before .before .before .before .before .before .before .byte .ensures) in
-    let test = bad-page-is (a .caller) (a .rcx) b (c .before .before .before .before .before .before .before .byte .result) _ (c .before .before .before .before .before .bad-list-page .ensures) in
-    let count = count-is b (a .rcx) (c .before .before .number2 .result) (c .before .before .number2 .ensures) in
-    rw (eq-eqb _ 0 (c .before .before .before .before .before .before .before .before .if1 .left), vmpl, test, c .before .before .before .before .if2 .left, count, ne-eqb _ 0 (c .before .if3 .left), lt-ltb page-size (offset-of (a .rcx) + 8 + 8 * c .before .before .number2 .result) (omega arith))
+    let counted = c .before .before in
+    let end = offset-of (start₃ counted .args .rcx) + 8 + 8 * counted .number2 .result in
+    rw (aligned (at-page counted), page-told (at-page counted) ∙ counted .before .before .if2 .left, count-told counted, ne-eqb _ 0 (c .before .if3 .left), lt-ltb page-size end (omega arith))
 
 add-number2 : tie.Need-add-number2
 add-number2 c = search needs
 
 number2-requires-2 : tie.Need-number2-requires-2
-unfolding page-of page-size record-size
-number2-requires-2 c κs =
-    let start = c .before .before .before .before .before .before .before .before .before .before .before .before .before in
-    let a = start .args in
-    let b : Buffers = record { memory = now (a .memory); table = now (a .table); sheet = now (a .sheet) } in
-    let t = start .pre in
-    let vmpl = vmpl-is (a .caller) (a .rcx) b (c .before .before .before .before .before .before .before .before .byte .result) (c .before .before .before .before .before .before .before .before .byte .ensures) in
-    let test = bad-page-is (a .caller) (a .rcx) b (c .before .before .before .before .before .before .before .before .byte .result) _ (c .before .before .before .before .before .before .bad-list-page .ensures) in
-    let below = page-within (a .caller) (a .rcx) b (c .before .before .before .before .before .before .before .before .byte .result) t (test ∙ c .before .before .before .before .before .if2 .left) in
-    record { some = lit< tt; below = below; within = omega arith }
+unfolding page-of page-size
+number2-requires-2 c κs = record { some = lit< tt; below = page-inside (at-count (c .before) .before .before); within = omega arith }
 
 cast-next : tie.Need-cast-next
 cast-next c = search needs
@@ -134,17 +151,10 @@ same-length-7 : tie.Need-same-length-7
 same-length-7 c = search needs
 
 returns-5 : tie.Need-returns-5
-unfolding list-call refuse multiple bad-count bad-next page-of offset-of page-size record-size
+unfolding list-call refuse bad-next
 returns-5 c =
-    let start = c .before .before .before .before .before .before .before .before .before .before .before .before .before .before .before in
-    let a = start .args in
-    let b : Buffers = record { memory = now (a .memory); table = now (a .table); sheet = now (a .sheet) } in
-    let t = start .pre in
-    let vmpl = vmpl-is (a .caller) (a .rcx) b (c .before .before .before .before .before .before .before .before .before .before .byte .result) (c .before .before .before .before .before .before .before .before .before .before .byte .ensures) in
-    let test = bad-page-is (a .caller) (a .rcx) b (c .before .before .before .before .before .before .before .before .before .before .byte .result) _ (c .before .before .before .before .before .before .before .before .bad-list-page .ensures) in
-    let count = count-is b (a .rcx) (c .before .before .before .before .before .number2 .result) (c .before .before .before .before .before .number2 .ensures) in
-    let next = next-is b (a .rcx) (c .before .number22 .result) (c .before .number22 .ensures) in
-    rw (eq-eqb _ 0 (c .before .before .before .before .before .before .before .before .before .before .before .if1 .left), vmpl, test, c .before .before .before .before .before .before .before .if2 .left, count, ne-eqb _ 0 (c .before .before .before .before .if3 .left), le-ltb page-size (offset-of (a .rcx) + 8 + 8 * c .before .before .before .before .before .number2 .result) (omega (arith, c .before .before .before .if4 .left)), next, le-leb _ _ (c .if5 .taken))
+    let counted = at-count (else₄ (c .before)) in
+    rw (aligned (at-page counted), page-told (at-page counted) ∙ counted .before .before .if2 .left, good-count (else₄ (c .before)), count-told counted, next-told (c .before), le-leb _ _ (c .if5 .taken))
 
 sub-at-most : tie.Need-sub-at-most
 sub-at-most c = search needs
@@ -153,17 +163,12 @@ at-most-requires : tie.Need-at-most-requires
 at-most-requires c κs = search needs
 
 run-requires : tie.Need-run-requires
-unfolding page-of page-size record-size entries-a-call
+unfolding page-of page-size entries-a-call
 run-requires c κs =
-    let start = c .before .before .before .before .before .before .before .before .before .before .before .before .before .before .before .before .before .before in
-    let a = start .args in
-    let b : Buffers = record { memory = now (a .memory); table = now (a .table); sheet = now (a .sheet) } in
-    let t = start .pre in
-    let vmpl = vmpl-is (a .caller) (a .rcx) b (c .before .before .before .before .before .before .before .before .before .before .before .before .before .byte .result) (c .before .before .before .before .before .before .before .before .before .before .before .before .before .byte .ensures) in
-    let test = bad-page-is (a .caller) (a .rcx) b (c .before .before .before .before .before .before .before .before .before .before .before .before .before .byte .result) _ (c .before .before .before .before .before .before .before .before .before .before .before .bad-list-page .ensures) in
-    let below = page-within (a .caller) (a .rcx) b (c .before .before .before .before .before .before .before .before .before .before .before .before .before .byte .result) t (test ∙ c .before .before .before .before .before .before .before .before .before .before .if2 .left) in
-    let pages = pages-tested b (a .caller) t in
-    record { tested = t; below = omega arith; within = omega (arith, c .before .before .at-most .ensures) }
+    let asked = c .before .before in
+    let counted = at-count (else₄ (asked .before .before)) in
+    let t = start₃ counted .pre in
+    record { tested = t; below = omega (arith, pages-tested _ _ t, page-inside (counted .before .before)); within = omega (arith, asked .at-most .ensures) }
 
 same-length-8 : tie.Need-same-length-8
 same-length-8 c = search needs
@@ -172,18 +177,15 @@ same-length-9 : tie.Need-same-length-9
 same-length-9 c = search needs
 
 returns-6 : tie.Need-returns-6
-unfolding list-call refuse multiple bad-count bad-next page-of offset-of page-size record-size run-within
+unfolding list-call refuse bad-next run-within
 returns-6 c =
-    let start = c .before .before .before .before .before .before .before .before .before .before .before .before .before .before .before .before .before .before .before .before .before .before .before in
-    let a = start .args in
-    let b : Buffers = record { memory = now (a .memory); table = now (a .table); sheet = now (a .sheet) } in
-    let t = start .pre in
-    let vmpl = vmpl-is (a .caller) (a .rcx) b (c .before .before .before .before .before .before .before .before .before .before .before .before .before .before .before .before .before .before .byte .result) (c .before .before .before .before .before .before .before .before .before .before .before .before .before .before .before .before .before .before .byte .ensures) in
-    let test = bad-page-is (a .caller) (a .rcx) b (c .before .before .before .before .before .before .before .before .before .before .before .before .before .before .before .before .before .before .byte .result) _ (c .before .before .before .before .before .before .before .before .before .before .before .before .before .before .before .before .bad-list-page .ensures) in
-    let count = count-is b (a .rcx) (c .before .before .before .before .before .before .before .before .before .before .before .before .before .number2 .result) (c .before .before .before .before .before .before .before .before .before .before .before .before .before .number2 .ensures) in
-    let next = next-is b (a .rcx) (c .before .before .before .before .before .before .before .before .before .number22 .result) (c .before .before .before .before .before .before .before .before .before .number22 .ensures) in
-    rw (eq-eqb _ 0 (c .before .before .before .before .before .before .before .before .before .before .before .before .before .before .before .before .before .before .before .if1 .left), vmpl, test, c .before .before .before .before .before .before .before .before .before .before .before .before .before .before .before .if2 .left, count, ne-eqb _ 0 (c .before .before .before .before .before .before .before .before .before .before .before .before .if3 .left), le-ltb page-size (offset-of (a .rcx) + 8 + 8 * c .before .before .before .before .before .before .before .before .before .before .before .before .before .number2 .result) (omega (arith, c .before .before .before .before .before .before .before .before .before .before .before .if4 .left)), next, lt-leb _ _ (c .before .before .before .before .before .before .before .before .if5 .left), ← c .before .before .before .before .before .before .before .at-most .ensures)
-    (c .before .before .before .before .run .ensures)
+    let memory-back = c .before .before in
+    let ran = memory-back .before .before in
+    let asked = ran .before .before .before in
+    let read = asked .before .before in
+    let counted = at-count (else₄ read) in
+    rw (aligned (at-page counted), page-told (at-page counted) ∙ counted .before .before .if2 .left, good-count (else₄ read), count-told counted, next-told read, lt-leb _ _ (asked .before .if5 .left), ← asked .at-most .ensures)
+    (ran .run .ensures)
 
 pub list-call-spec : {M : Type 1} → statement M
 list-call-spec =

@@ -2,8 +2,8 @@
 -- from the start. The measure is the number of entries left.
 -- Assumes nothing.
 use mathlib.Core.Path.{_≡_, refl, sym, _∙_, ap}
-use mathlib.Core.List.{List, []}
-use Prim.Native.Nat.{ℕ, suc, _+_, _-_, _*_, _/_, _%_, _<_, _≤_}
+use mathlib.Core.List.{List}
+use Prim.Native.Nat.{ℕ, _+_, _-_, _*_, _/_, _%_, _≤_}
 use native.Mathlib.Omega.{arith}
 use native.Mathlib.Nat.{add-assoc}
 use native.Mathlib.Numerals.{add-one}
@@ -19,9 +19,9 @@ use Rattle.rules.specs.Lists
 use Rattle.rules.specs.Flat.{Buffers, parts, parted, memory-sized}
 use Rattle.laws.proofs.FlatSteps.{sizes}
 use Rattle.laws.proofs.Tested.{pages-tested, memory-tested, rows-tested, caller-below}
-use Rattle.laws.proofs.Parts.{same-parts}
 use Rattle.effects.proofs.Laws.{all-after}
 use Rattle.entries.specs.Reading.{read-at}
+use Rattle.list_calls.specs.Listed.{Listed}
 use Rattle.list_calls.proofs.Entries.{run-on, run-refused, reads-within, still-tested}
 use Rattle.list_calls.proofs.run.Statement.{statement}
 use Rattle.list_calls.proofs.run.Tie as tie
@@ -37,52 +37,69 @@ Inv-loop memory₀ table₀ sheet call caller rcx start budget page offset vmpl 
 abbrev μ-loop : tie.MeasureT-loop
 μ-loop memory₀ table₀ sheet call caller rcx start budget page offset vmpl end k₀ memory table k = end - k
 
+-- the way back, each place by the one before it
+abbrev start : tie.At-loop Inv-loop μ-loop → tie.Start Inv-loop μ-loop
+start c = let known = c .before .before in known .before .before .before
+
+abbrev looped : tie.After-read Inv-loop μ-loop → tie.In-loop Inv-loop μ-loop
+looped c = let number = c .before .before in number .before .before
+
+-- the buffers in the loop, and what is known of them
+abbrev kept : tie.At-loop Inv-loop μ-loop → Buffers
+kept c = buffers (c .loop .memory) (c .loop .table) (now (start c .args .sheet))
+
+listed : (c : tie.At-loop Inv-loop μ-loop) → Listed (kept c) (start c .args .caller) (start c .args .rcx) (c .loop .k)
+listed c =
+    let l = c .loop in
+    let p = start c .pre in
+    record { tested = still-tested _ _ _ (p .tested) (l .inv .1) (l .inv .2) refl; below = rw (l .inv .2) (p .below); within = omega (arith, p .within, l .inv .3) }
+
+room : (c : tie.In-loop Inv-loop μ-loop) → start (c .before) .args .rcx % 4096 + 8 + 8 * (c .before .loop .k + 1) ≤ 4096
+room c = omega (arith, start (c .before) .pre .within, c .loop-test .taken)
+
+entry-told : (c : tie.After-number8 Inv-loop μ-loop)
+    → list-entry (c .before .before .before .loop .k) (start (c .before .before .before) .args .rcx) (parted (kept (c .before .before .before))) ≡ c .number8 .result
+unfolding list-entry in-list page-at page-of offset-of parted page-size
+entry-told c =
+    let at-loop = c .before .before .before in
+    rw (← add-assoc (start at-loop .args .rcx % 4096) 8 (8 * at-loop .loop .k)) (sym (c .number8 .ensures))
+
 byte-requires : tie.Need-byte-requires Inv-loop μ-loop
 unfolding record-size records
 byte-requires c κs =
-    let start = c .before .before .before in
-    let b = buffers (now (start .args .memory)) (now (start .args .table)) (now (start .args .sheet)) in
-    let caller = start .args .caller in
-    let t = start .pre .tested in
-    record { some = lit< tt; below = omega (arith, rows-tested b caller t, caller-below b caller t); within = lit≤ tt }
+    let t = c .before .before .before .pre .tested in
+    record { some = lit< tt; below = omega (arith, rows-tested _ _ t, caller-below _ _ t); within = lit≤ tt }
 
 add-end : tie.Need-add-end Inv-loop μ-loop
 add-end c = omega arith
 
 loop-holds : tie.Need-loop-holds Inv-loop μ-loop
 loop-holds c =
-    let a = c .before .before .before .before .args in
+    let known = c .before in
+    let a = known .before .before .before .args in
     let m = parted (buffers (now (a .memory)) (now (a .table)) (now (a .sheet))) in
     (ap (λ (todo : ℕ). Lists.run (a .call) (a .caller) (a .rcx) todo (a .start) m) {x = a .budget} (omega arith), refl, refl, omega arith)
 
 add-number8 : tie.Need-add-number8 Inv-loop μ-loop
-add-number8 c = omega (arith, c .before .before .before .before .before .before .before .pre .within, c .before .before .loop .inv .3, c .before .loop-test .taken)
+add-number8 c = omega (arith, room (c .before))
 
 mul-number8 : tie.Need-mul-number8 Inv-loop μ-loop
-mul-number8 c = omega (arith, c .before .before .before .before .before .before .before .pre .within, c .before .before .loop .inv .3, c .before .loop-test .taken)
+mul-number8 c = omega (arith, room (c .before))
 
 add-number8-2 : tie.Need-add-number8-2 Inv-loop μ-loop
-add-number8-2 c = omega (arith, c .before .before .before .before .before .before .before .pre .within, c .before .before .loop .inv .3, c .before .loop-test .taken)
+add-number8-2 c = omega (arith, room (c .before))
 
 number8-requires : tie.Need-number8-requires Inv-loop μ-loop
 unfolding page-size
 number8-requires c κs =
-    let start = c .before .before .before .before .before .before .before in
-    let b = buffers (now (start .args .memory)) (now (start .args .table)) (now (start .args .sheet)) in
-    let caller = start .args .caller in
-    let t = start .pre .tested in
-    let l = c .before .before .loop in
-    let pages = same-parts page-size (b .memory) (l .memory) (l .inv .1) ∙ pages-tested b caller t in
-    record { some = lit< tt; below = omega (arith, start .pre .below); within = omega (arith, start .pre .within, l .inv .3, c .before .loop-test .taken) }
+    let known = listed (c .before .before) in
+    record { some = lit< tt; below = omega (arith, pages-tested _ _ (known .tested), known .below); within = omega (arith, room (c .before)) }
 
 read-requires : tie.Need-read-requires Inv-loop μ-loop
 unfolding memory-sized most-pages
 read-requires c κs =
-    let start = c .before .before .before .before .before .before .before .before .before in
-    let b = buffers (now (start .args .memory)) (now (start .args .table)) (now (start .args .sheet)) in
-    let caller = start .args .caller in
-    let t = start .pre .tested in
-    omega (arith, sizes _ _ (memory-tested b caller t) .most, c .before .before .before .before .loop .inv .2)
+    let inside = c .before .before .before in
+    omega (arith, sizes _ _ (memory-tested _ _ (listed (inside .before) .tested)) .most)
 
 enum-known-entry : tie.Need-enum-known-entry Inv-loop μ-loop
 enum-known-entry c = search needs
@@ -91,112 +108,101 @@ enum-told : tie.Need-enum-told Inv-loop μ-loop
 enum-told c = search needs
 
 add-put-number2 : tie.Need-add-put-number2 Inv-loop μ-loop
-add-put-number2 c = omega (arith, c .before .before .before .before .before .before .before .before .before .before .before .before .before .pre .within, c .before .before .before .before .before .before .before .before .loop .inv .3, c .before .before .before .before .before .before .before .loop-test .taken)
+add-put-number2 c = omega (arith, room (looped (c .before .before .before)))
 
 cast-put-number2 : tie.Need-cast-put-number2 Inv-loop μ-loop
-cast-put-number2 c = omega (arith, c .before .before .before .before .before .before .before .before .before .before .before .before .before .pre .within, c .before .before .before .before .before .before .before .before .loop .inv .3, c .before .before .before .before .before .before .before .loop-test .taken)
+cast-put-number2 c = omega (arith, room (looped (c .before .before .before)))
 
 put-number2-requires : tie.Need-put-number2-requires Inv-loop μ-loop
 unfolding page-size
 put-number2-requires c κs =
-    let start = c .before .before .before .before .before .before .before .before .before .before .before .before .before in
-    let b = buffers (now (start .args .memory)) (now (start .args .table)) (now (start .args .sheet)) in
-    let caller = start .args .caller in
-    let t = start .pre .tested in
-    let l = c .before .before .before .before .before .before .before .before .loop in
-    let pages = same-parts page-size (b .memory) (l .memory) (l .inv .1) ∙ pages-tested b caller t in
-    record { some = lit< tt; below = omega (arith, start .pre .below); within = omega (arith, start .pre .within, l .inv .3, c .before .before .before .before .before .before .before .loop-test .taken) }
+    let inside = looped (c .before .before .before) in
+    let known = listed (inside .before) in
+    record { some = lit< tt; below = omega (arith, pages-tested _ _ (known .tested), known .below); within = omega (arith, room inside) }
 
 refusal-requires : tie.Need-refusal-requires Inv-loop μ-loop
 refusal-requires c κs = search needs
 
+abbrev refused : tie.After-refusal Inv-loop μ-loop → tie.After-enum-told Inv-loop μ-loop
+refused c = let put = c .before .before .before in put .before .before
+
 same-length : tie.Need-same-length Inv-loop μ-loop
-same-length c = c .before .before .before .put-number2 .kept .0 ∙ c .before .before .before .before .before .before .before .before .before .before .before .before .loop .inv .1
+same-length c = c .before .before .before .put-number2 .kept .0 ∙ looped (refused c .before .before) .before .loop .inv .1
 
 same-length-2 : tie.Need-same-length-2 Inv-loop μ-loop
-same-length-2 c = c .before .before .before .before .before .before .before .before .before .before .before .before .loop .inv .2
+same-length-2 c = looped (refused c .before .before) .before .loop .inv .2
 
 returns : tie.Need-returns Inv-loop μ-loop
-unfolding list-entry in-list store-index write with-memory page-at page-of offset-of vcpu record-at fields entry-code parted page-size record-size
+unfolding store-index write with-memory page-of offset-of entry-code parted page-size record-size
 returns c =
-    let start = c .before .before .before .before .before .before .before .before .before .before .before .before .before .before .before .before .before in
-    let b = buffers (now (start .args .memory)) (now (start .args .table)) (now (start .args .sheet)) in
-    let caller = start .args .caller in
-    let t = start .pre .tested in
-    let l = c .before .before .before .before .before .before .before .before .before .before .before .before .loop in
-    let a = start .args in
-    let m = parted (buffers (l .memory) (l .table) (b .sheet)) in
-    let todo = a .start + a .budget - l .k in
-    let e : list-entry (l .k) (start .args .rcx) m ≡ c .before .before .before .before .before .before .before .before .before .number8 .result = rw (← add-assoc (start .args .rcx % 4096) 8 (8 * l .k)) (sym (c .before .before .before .before .before .before .before .before .before .number8 .ensures)) in
-    let told = c .before .before .before .before .before .enum-told .given in
-    let refused = ap (λ (x : ℕ). read-at (a .call) (a .rcx / 4096) x (l .table)) e ∙ sym (c .before .before .before .before .before .before .before .read .ensures) ∙ told .1 in
+    let read = refused c .before .before in
+    let l = looped read .before .loop in
+    let a = start (looped read .before) .args in
+    let m = parted (kept (looped read .before)) in
+    let told = refused c .enum-told .given in
+    let entry = ap (λ (x : ℕ). read-at (a .call) (a .rcx / 4096) x (l .table)) (entry-told (read .before .before)) ∙ sym (read .read .ensures) ∙ told .1 in
     let code = c .refusal .ensures ∙ ap entry-code (told .1) in
     let stored = c .before .before .before .put-number2 .ensures ∙ ap (λ (x : ℕ). written (page-of (a .rcx)) (offset-of (a .rcx) + 2) (little 2 x) (m .memory)) {y = l .k} (omega arith) in
-    l .inv .0 ∙ run-refused (a .call) caller (a .rcx) todo (l .k) m (omega (arith, c .before .before .before .before .before .before .before .before .before .before .before .loop-test .taken)) (told .0 .0) refused
-    ∙ (λ i. record { answer = sym code i; after = record { memory = sym stored i; table = l .table; sheet = parts record-size (b .sheet) } })
+    l .inv .0 ∙ run-refused (a .call) (a .caller) (a .rcx) (a .start + a .budget - l .k) (l .k) m (omega (arith, looped read .loop-test .taken)) (told .0 .0) entry
+    ∙ (λ i. record { answer = sym code i; after = record { memory = sym stored i; table = l .table; sheet = parts record-size (now (a .sheet)) } })
+
+abbrev entry-of : tie.After-carry-out-all-arg2 Inv-loop μ-loop → tie.After-entry Inv-loop μ-loop
+entry-of c = c .before .before .before
 
 carry-out-all-requires : tie.Need-carry-out-all-requires Inv-loop μ-loop
 carry-out-all-requires c κs =
-    let start = c .before .before .before .before .before .before .before .before .before .before .before .before .before .before .before in
-    let b = buffers (now (start .args .memory)) (now (start .args .table)) (now (start .args .sheet)) in
-    let caller = start .args .caller in
-    let t = start .pre .tested in
-    let l = c .before .before .before .before .before .before .before .before .before .before .loop in
-    let pages = same-parts page-size (b .memory) (l .memory) (l .inv .1) ∙ pages-tested b caller t in
-    record { within = reads-within _ _ _ _ _ _ _ (sym (c .before .before .before .before .before .read .ensures) ∙ c .before .before .before .entry .given .1); pages = pages ∙ sym (l .inv .2) }
+    let read = entry-of c .before .before in
+    record { within = reads-within _ _ _ _ _ _ _ (sym (read .read .ensures) ∙ entry-of c .entry .given .1); pages = pages-tested _ _ (listed (looped read .before) .tested) }
+
+abbrev carried : tie.After-slice-known5 Inv-loop μ-loop → tie.After-carry-out-all Inv-loop μ-loop
+carried c = let memory-back = c .before .before in memory-back .before .before
+
+abbrev round : tie.After-slice-known5 Inv-loop μ-loop → tie.In-loop Inv-loop μ-loop
+round c = looped (entry-of (carried c .before) .before .before)
 
 add-k : tie.Need-add-k Inv-loop μ-loop
-add-k c = omega (arith, c .before .before .before .before .before .before .before .before .before .before .before .before .before .before .before .before .before .before .before .before .pre .within, c .before .before .before .before .before .before .before .before .before .before .before .before .before .before .before .loop .inv .3, c .before .before .before .before .before .before .before .before .before .before .before .before .before .before .loop-test .taken)
+add-k c = omega (arith, room (round c))
 
 loop-less : tie.Need-loop-less Inv-loop μ-loop
-loop-less c = omega (arith, c .before .before .before .before .before .before .before .before .before .before .before .before .before .before .before .before .before .before .before .before .pre .within, c .before .before .before .before .before .before .before .before .before .before .before .before .before .before .before .loop .inv .3, c .before .before .before .before .before .before .before .before .before .before .before .before .before .before .loop-test .taken)
+loop-less c = omega (arith, round c .loop-test .taken)
 
 loop-again : tie.Need-loop-again Inv-loop μ-loop
-unfolding list-entry in-list store-index write with-memory page-at page-of offset-of vcpu record-at fields entry-code parted page-size record-size
+unfolding vcpu record-at fields parted record-size
 loop-again c =
-    let start = c .before .before .before .before .before .before .before .before .before .before .before .before .before .before .before .before .before .before .before .before in
-    let b = buffers (now (start .args .memory)) (now (start .args .table)) (now (start .args .sheet)) in
-    let caller = start .args .caller in
-    let t = start .pre .tested in
-    let l = c .before .before .before .before .before .before .before .before .before .before .before .before .before .before .before .loop in
-    let a = start .args in
-    let m = parted (buffers (l .memory) (l .table) (b .sheet)) in
+    let at-loop = round c .before in
+    let l = at-loop .loop in
+    let a = start at-loop .args in
+    let byte = at-loop .before .byte in
+    let m = parted (kept at-loop) in
     let todo = a .start + a .budget - l .k in
-    let e : list-entry (l .k) (start .args .rcx) m ≡ c .before .before .before .before .before .before .before .before .before .before .before .before .number8 .result = rw (← add-assoc (start .args .rcx % 4096) 8 (8 * l .k)) (sym (c .before .before .before .before .before .before .before .before .before .before .before .before .number8 .ensures)) in
-    let v = c .before .before .before .before .before .before .before .before .entry .given .0 in
-    let reads = ap (λ (x : ℕ). read-at (a .call) (a .rcx / 4096) x (l .table)) e ∙ sym (c .before .before .before .before .before .before .before .before .before .before .read .ensures) ∙ c .before .before .before .before .before .before .before .before .entry .given .1 in
-    let done = c .before .before .before .before .carry-out-all .ensures in
-    let after = all-after (v .1 .1 .0) (c .before .before .before .before .before .before .before .before .before .before .before .before .before .before .before .before .byte .result) (v .0) (v .1 .0) m
-    ∙ (λ i. record { memory = done i .memory; table = done i .table; sheet = parts record-size (b .sheet) }) in
+    let entry = entry-of (carried c .before) in
+    let read = entry .before .before in
+    let v = entry .entry .given .0 in
+    let done = carried c .carry-out-all in
+    let after = all-after (v .1 .1 .0) (byte .result) (v .0) (v .1 .0) m
+    ∙ (λ i. record { memory = done .ensures i .memory; table = done .ensures i .table; sheet = parts record-size (now (a .sheet)) }) in
     let fewer : todo - 1 ≡ a .start + a .budget - (l .k + 1) = omega arith in
-    let on = run-on (a .call) caller (a .rcx) todo (l .k) m (omega (arith, c .before .before .before .before .before .before .before .before .before .before .before .before .before .before .loop-test .taken)) (v .0) (v .1 .0) (v .1 .1 .0) reads in
-    (l .inv .0 ∙ rw (← c .before .before .before .before .before .before .before .before .before .before .before .before .before .before .before .before .byte .ensures, after, ← add-one (l .k), fewer) at on, c .before .before .before .before .carry-out-all .kept .0 ∙ l .inv .1, c .before .before .before .before .carry-out-all .kept .1 .0 ∙ l .inv .2, omega arith)
+    let reads = ap (λ (x : ℕ). read-at (a .call) (a .rcx / 4096) x (l .table)) (entry-told (read .before .before)) ∙ sym (read .read .ensures) ∙ entry .entry .given .1 in
+    let on = run-on (a .call) (a .caller) (a .rcx) todo (l .k) m (omega (arith, round c .loop-test .taken)) (v .0) (v .1 .0) (v .1 .1 .0) reads in
+    (l .inv .0 ∙ rw (← byte .ensures, after, ← add-one (l .k), fewer) at on, done .kept .0 ∙ l .inv .1, done .kept .1 .0 ∙ l .inv .2, omega arith)
+
+abbrev ended : tie.After-stop-arg2 Inv-loop μ-loop → tie.At-loop Inv-loop μ-loop
+ended c = c .before .before .before
 
 stop-requires : tie.Need-stop-requires Inv-loop μ-loop
-stop-requires c κs =
-    let start = c .before .before .before .before .before .before .before .before in
-    let b = buffers (now (start .args .memory)) (now (start .args .table)) (now (start .args .sheet)) in
-    let caller = start .args .caller in
-    let t = start .pre .tested in
-    let l = c .before .before .before .loop in
-    record {
-      tested = still-tested b (buffers (l .memory) (l .table) (b .sheet)) caller t (l .inv .1) (l .inv .2) refl;
-      below = rw (l .inv .2) (start .pre .below);
-      within = omega (arith, start .pre .within, l .inv .3);
-    }
+stop-requires c κs = listed (ended c)
 
 same-length-3 : tie.Need-same-length-3 Inv-loop μ-loop
-same-length-3 c = c .before .before .stop .kept .0 ∙ c .before .before .before .before .before .before .loop .inv .1
+same-length-3 c = c .before .before .stop .kept .0 ∙ ended (c .before .before .before) .loop .inv .1
 
 same-length-4 : tie.Need-same-length-4 Inv-loop μ-loop
-same-length-4 c = c .before .before .before .before .before .before .loop .inv .2
+same-length-4 c = ended (c .before .before .before) .loop .inv .2
 
 returns-2 : tie.Need-returns-2 Inv-loop μ-loop
 returns-2 c =
-    let l = c .before .before .before .before .before .before .loop in
-    let a = c .before .before .before .before .before .before .before .before .before .before .before .args in
-    let none : a .start + a .budget - l .k ≡ 0 = omega arith in
-    rw none at (l .inv .0) ∙ c .before .before .stop .ensures
+    let at-end = ended (c .before .before .before) in
+    let none : start at-end .args .start + start at-end .args .budget - at-end .loop .k ≡ 0 = omega arith in
+    rw none at (at-end .loop .inv .0) ∙ c .before .before .stop .ensures
 
 pub run-spec : {M : Type 1} → statement M
 run-spec =
