@@ -1,21 +1,50 @@
 -- `monitor::launch::launch` meets its contract: each refusal is the definition's, lowest number first, and what is made is the definition's.
 -- Assumes nothing.
-use mathlib.Core.Path.{_≡_, sym, _∙_, ap}
-use mathlib.Core.Bool.{true}
-use Prim.Native.Nat.{ℕ, _*_}
+use mathlib.Core.Path.{_≡_, sym, _∙_}
+use mathlib.Core.Bool.{true, false}
+use Prim.Native.Nat.{_*_}
 use native.Mathlib.Omega.{arith}
 use borrow.Author.Tests.{eq-eqb, ne-eqb, not-true, not-false}
 use lib.ListN.{length}
 use denote.Ref.{now}
 use Rattle.rules.specs.Words.{records, record-size}
 use Rattle.rules.specs.Machine.{N, page-at}
-use Rattle.rules.specs.Flat.{Buffers, parted, memory-fits, memory-sized, sheet-sized, well-sized}
+use Rattle.rules.specs.Launch.{out-of-range, areas-meet}
+use Rattle.rules.specs.Flat.{Buffers, parted, memory-sized, sheet-sized, well-sized}
 use Rattle.rules.specs.Promises.{Launch-promise}
 use Rattle.laws.proofs.FlatSteps.{sizes, length-pages}
 use Rattle.laws.proofs.FlatLaunch.{well-sized-by, same-sizes, in-range, launch-unsized, launch-out-of-range, launch-areas-meet, launch-unfit, launch-made}
 use borrow.Author.Needs.{needs}
 use Rattle.monitor.proofs.launch.launch.Statement.{statement}
 use Rattle.monitor.proofs.launch.launch.Tie as tie
+
+abbrev buffers : tie.Start → Buffers
+buffers s = record { memory = now (s .args .memory); table = now (s .args .table); sheet = now (s .args .sheet) }
+
+-- the way back, each place by the one before it
+abbrev start₁ : tie.Else1 → tie.Start
+start₁ c = let known = c .before .before in known .before .before .before
+
+abbrev else₂ : tie.Else4 → tie.Else2
+else₂ c = c .before .before .before
+
+abbrev else₄ : tie.Else5 → tie.Else4
+else₄ c = c .before .before
+
+-- what each place knows
+fits : (c : tie.Else1) → memory-sized (now (start₁ c .args .table)) (now (start₁ c .args .memory)) ≡ true
+unfolding memory-sized
+fits c = sym (c .before .fits2 .ensures) ∙ not-false _ (c .if1 .left)
+
+sized : (c : tie.Else2) → well-sized (buffers (start₁ (c .before))) ≡ true
+unfolding memory-sized
+sized c = well-sized-by (buffers (start₁ (c .before))) (fits (c .before)) (c .if2 .left)
+
+within : (c : tie.Else4) → out-of-range (start₁ (else₂ c .before) .args .plan) (length (now (start₁ (else₂ c .before) .args .table))) ≡ false
+within c = sym (c .before .out-of-range .ensures) ∙ c .if4 .left
+
+apart : (c : tie.Else5) → areas-meet (start₁ (else₂ (else₄ c) .before) .args .plan) ≡ false
+apart c = sym (c .before .areas-meet .ensures) ∙ c .if5 .left
 
 fits-requires : tie.Need-fits-requires
 fits-requires c κs = search needs
@@ -26,29 +55,18 @@ returns c = launch-unsized _ _ _ (rw (sym (c .before .fits2 .ensures) ∙ not-tr
 
 returns-2 : tie.Need-returns-2
 unfolding Launch-promise well-sized memory-sized sheet-sized record-size records
-returns-2 c =
-    let sheet = now (c .before .before .before .before .before .before .args .sheet) in
-    launch-unsized _ _ _ (rw ((sym (c .before .before .fits2 .ensures) ∙ not-false _ (c .before .if1 .left)), ne-eqb (length sheet) (record-size * records) (omega arith)))
+returns-2 c = launch-unsized _ _ _ (rw (fits (c .before), ne-eqb (length (now (start₁ (c .before) .args .sheet))) (record-size * records) (omega arith)))
 
 returns-3 : tie.Need-returns-3
 unfolding Launch-promise
-returns-3 c =
-    let a = c .before .before .before .before .before .before .before .args in
-    let b : Buffers = record { memory = now (a .memory); table = now (a .table); sheet = now (a .sheet) } in
-    let fits = sym (c .before .before .before .fits2 .ensures) ∙ not-false _ (c .before .before .if1 .left) in
-    launch-unsized _ _ _ (rw (well-sized-by b fits (c .before .if2 .left), ne-eqb _ _ (c .if3 .taken)))
+returns-3 c = launch-unsized _ _ _ (rw (sized (c .before), ne-eqb _ _ (c .if3 .taken)))
 
 out-of-range-requires : tie.Need-out-of-range-requires
 out-of-range-requires c κs = search needs
 
 returns-4 : tie.Need-returns-4
 unfolding Launch-promise N parted
-returns-4 c =
-    let a = c .before .before .before .before .before .before .before .before .before .args in
-    let b : Buffers = record { memory = now (a .memory); table = now (a .table); sheet = now (a .sheet) } in
-    let fits = sym (c .before .before .before .before .before .fits2 .ensures) ∙ not-false _ (c .before .before .before .before .if1 .left) in
-    let told = eq-eqb _ _ (c .before .before .if3 .left) in
-    launch-out-of-range _ _ _ (well-sized-by b fits (c .before .before .before .if2 .left)) told (sym (c .before .out-of-range .ensures) ∙ c .if4 .taken)
+returns-4 c = launch-out-of-range _ _ _ (sized (c .before .before .before)) (eq-eqb _ _ (c .before .before .if3 .left)) (sym (c .before .out-of-range .ensures) ∙ c .if4 .taken)
 
 areas-meet-requires : tie.Need-areas-meet-requires
 areas-meet-requires c κs = search needs
@@ -56,21 +74,11 @@ areas-meet-requires c κs = search needs
 returns-5 : tie.Need-returns-5
 unfolding Launch-promise N parted
 returns-5 c =
-    let a = c .before .before .before .before .before .before .before .before .before .before .before .args in
-    let b : Buffers = record { memory = now (a .memory); table = now (a .table); sheet = now (a .sheet) } in
-    let fits = sym (c .before .before .before .before .before .before .before .fits2 .ensures) ∙ not-false _ (c .before .before .before .before .before .before .if1 .left) in
-    let told = eq-eqb _ _ (c .before .before .before .before .if3 .left) in
-    let within = sym (c .before .before .before .out-of-range .ensures) ∙ c .before .before .if4 .left in
-    launch-areas-meet _ _ _ (well-sized-by b fits (c .before .before .before .before .before .if2 .left)) told within (sym (c .before .areas-meet .ensures) ∙ c .if5 .taken)
+    let past = c .before .before in
+    launch-areas-meet _ _ _ (sized (else₂ past)) (eq-eqb _ _ (past .before .before .if3 .left)) (within past) (sym (c .before .areas-meet .ensures) ∙ c .if5 .taken)
 
 is-unfit-requires : tie.Need-is-unfit-requires
-unfolding memory-sized
-is-unfit-requires c κs =
-    let a = c .before .before .before .before .before .before .before .before .before .before .before .before .args in
-    let b : Buffers = record { memory = now (a .memory); table = now (a .table); sheet = now (a .sheet) } in
-    let fits = sym (c .before .before .before .before .before .before .before .before .fits2 .ensures) ∙ not-false _ (c .before .before .before .before .before .before .before .if1 .left) in
-    let within = sym (c .before .before .before .before .out-of-range .ensures) ∙ c .before .before .before .if4 .left in
-    rw (length-pages (now (a .table)) (now (a .memory)) fits) (in-range (a .plan) (length (now (a .table))) within .0)
+is-unfit-requires c κs = rw (length-pages _ _ (fits (else₂ (else₄ (c .before)) .before))) (in-range _ _ (within (else₄ (c .before))) .0)
 
 same-length : tie.Need-same-length
 same-length c = search needs
@@ -78,24 +86,20 @@ same-length c = search needs
 returns-6 : tie.Need-returns-6
 unfolding Launch-promise N parted page-at
 returns-6 c =
-    let a = c .before .before .before .before .before .before .before .before .before .before .before .before .before .before .args in
-    let b : Buffers = record { memory = now (a .memory); table = now (a .table); sheet = now (a .sheet) } in
-    let fits = sym (c .before .before .before .before .before .before .before .before .before .before .fits2 .ensures) ∙ not-false _ (c .before .before .before .before .before .before .before .before .before .if1 .left) in
-    let told = eq-eqb _ _ (c .before .before .before .before .before .before .before .if3 .left) in
-    let within = sym (c .before .before .before .before .before .before .out-of-range .ensures) ∙ c .before .before .before .before .before .if4 .left in
-    let apart = sym (c .before .before .before .before .areas-meet .ensures) ∙ c .before .before .before .if5 .left in
-    launch-unfit _ _ _ (well-sized-by b fits (c .before .before .before .before .before .before .before .before .if2 .left)) told within apart (sym (c .before .is-unfit .ensures) ∙ c .if6 .taken)
+    let past = c .before .before .before in
+    let ranged = else₄ past in
+    launch-unfit _ _ _ (sized (else₂ ranged)) (eq-eqb _ _ (ranged .before .before .if3 .left)) (within ranged) (apart past) (sym (c .before .is-unfit .ensures) ∙ c .if6 .taken)
 
 make-requires : tie.Need-make-requires
 unfolding memory-sized records record-size
 make-requires c κs =
-    let a = c .before .before .before .before .before .before .before .before .before .before .before .before .before .before .before .before .before .args in
-    let b : Buffers = record { memory = now (a .memory); table = now (a .table); sheet = now (a .sheet) } in
-    let fits = sym (c .before .before .before .before .before .before .before .before .before .before .before .before .before .fits2 .ensures) ∙ not-false _ (c .before .before .before .before .before .before .before .before .before .before .before .before .if1 .left) in
-    let within = sym (c .before .before .before .before .before .before .before .before .before .out-of-range .ensures) ∙ c .before .before .before .before .before .before .before .before .if4 .left in
-    let pages = length-pages (now (a .table)) (now (a .memory)) fits in
-    let named = in-range (a .plan) (length (now (a .table))) within in
-    record { vmsa = rw pages (named .0); calling = rw pages (named .1); most = rw pages (sizes _ _ fits .most); sized = c .before .before .before .before .before .before .before .before .before .before .before .if2 .left }
+    let fit = c .before .before .before in
+    let past = else₄ (fit .before .before .before) in
+    let a = start₁ (else₂ past .before) .args in
+    let right = fits (else₂ past .before) in
+    let pages = length-pages (now (a .table)) (now (a .memory)) right in
+    let named = in-range _ _ (within past) in
+    record { vmsa = rw pages (named .0); calling = rw pages (named .1); most = rw pages (sizes _ _ right .most); sized = else₂ past .if2 .left }
 
 same-length-2 : tie.Need-same-length-2
 same-length-2 c = search needs
@@ -109,16 +113,16 @@ same-length-4 c = search needs
 returns-7 : tie.Need-returns-7
 unfolding Launch-promise N parted page-at
 returns-7 c =
-    let a = c .before .before .before .before .before .before .before .before .before .before .before .before .before .before .before .before .before .before .before .before .before .before .before .before .args in
-    let b : Buffers = record { memory = now (a .memory); table = now (a .table); sheet = now (a .sheet) } in
-    let fits = sym (c .before .before .before .before .before .before .before .before .before .before .before .before .before .before .before .before .before .before .before .before .fits2 .ensures) ∙ not-false _ (c .before .before .before .before .before .before .before .before .before .before .before .before .before .before .before .before .before .before .before .if1 .left) in
-    let told = eq-eqb _ _ (c .before .before .before .before .before .before .before .before .before .before .before .before .before .before .before .before .before .if3 .left) in
-    let within = sym (c .before .before .before .before .before .before .before .before .before .before .before .before .before .before .before .before .out-of-range .ensures) ∙ c .before .before .before .before .before .before .before .before .before .before .before .before .before .before .before .if4 .left in
-    let apart = sym (c .before .before .before .before .before .before .before .before .before .before .before .before .before .before .areas-meet .ensures) ∙ c .before .before .before .before .before .before .before .before .before .before .before .before .before .if5 .left in
-    let s = well-sized-by b fits (c .before .before .before .before .before .before .before .before .before .before .before .before .before .before .before .before .before .before .if2 .left) in
-    let kept = c .before .before .before .before .before .before .make .kept in
-    launch-made _ _ _ s told within apart _ (sym (c .before .before .before .before .before .before .before .before .before .before .before .is-unfit .ensures) ∙ c .before .before .before .before .before .before .before .before .before .before .if6 .left) (same-sizes b _ (kept .0) (kept .1 .0) (kept .1 .1 .0) ∙ s)
-    (c .before .before .before .before .before .before .make .ensures)
+    let table-back = c .before .before .before in
+    let made = table-back .before .before .before in
+    let passing = made .before .before .before in
+    let tested = passing .before in
+    let past = tested .before .before .before in
+    let ranged = else₄ past in
+    let s = sized (else₂ ranged) in
+    let kept = made .make .kept in
+    launch-made _ _ _ s (eq-eqb _ _ (ranged .before .before .if3 .left)) (within ranged) (apart past) _ (sym (tested .before .is-unfit .ensures) ∙ tested .if6 .left)
+    (same-sizes (buffers (start₁ (else₂ ranged .before))) _ (kept .0) (kept .1 .0) (kept .1 .1 .0) ∙ s) (made .make .ensures)
 
 pub launch-spec : {M : Type 1} → statement M
 launch-spec =

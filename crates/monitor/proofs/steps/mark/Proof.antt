@@ -1,7 +1,7 @@
 -- `monitor::steps::mark` meets its contract: each refusal is the definition's, and the byte that is set is the byte of the record.
 -- Assumes nothing.
 use native.Mathlib.Omega.{arith}
-use borrow.Author.Tests.{lt-leb, le-leb, lt-ltb, le-ltb, eq-eqb, ne-eqb, not-true, not-false}
+use borrow.Author.Tests.{lt-leb, le-leb, lt-ltb, le-ltb, eq-eqb, ne-eqb}
 use lib.Dec.{lit≤}
 use Rattle.rules.specs.Words.{record-size, records}
 use Rattle.rules.specs.Machine.{is-live, fields, record-at}
@@ -14,6 +14,10 @@ use borrow.Author.Needs.{needs}
 use Rattle.monitor.proofs.steps.mark.Statement.{statement}
 use Rattle.monitor.proofs.steps.mark.Tie as tie
 
+-- the way back from the byte that was read
+abbrev else₂ : tie.After-byte → tie.Else2
+else₂ c = c .before .before .before
+
 returns : tie.Need-returns
 unfolding Mark-promise sheet-sized record-size records
 returns c = mark-unsized _ _ _ (ne-eqb _ _ (c .if1 .taken))
@@ -25,8 +29,8 @@ returns-2 c = mark-refused _ _ _ (eq-eqb _ _ (c .before .if1 .left)) (rw (le-ltb
 returns-3 : tie.Need-returns-3
 unfolding Mark-promise sheet-sized record-size records may-mark is-live fields record-at parted
 returns-3 c =
-    let running = c .before .before .before .before .args .running in
-    mark-refused _ _ _ (eq-eqb _ _ (c .before .before .if1 .left)) (rw (lt-ltb _ _ (c .before .if2 .left), lt-leb running 1 (omega arith)))
+    let past = c .before in
+    mark-refused _ _ _ (eq-eqb _ _ (past .before .if1 .left)) (rw (lt-ltb _ _ (past .if2 .left), lt-leb (past .before .before .before .args .running) 1 (omega arith)))
 
 byte-requires : tie.Need-byte-requires
 unfolding records record-size
@@ -38,13 +42,13 @@ same-length c = search needs
 returns-4 : tie.Need-returns-4
 unfolding Mark-promise sheet-sized record-size records may-mark is-live fields record-at parted
 returns-4 c =
-    let running = c .before .before .before .before .before .before .before .args .running in
-    mark-refused _ _ _ (eq-eqb _ _ (c .before .before .before .before .before .if1 .left))
-    (rw (lt-ltb _ _ (c .before .before .before .before .if2 .left), le-leb running 1 (omega arith), ← c .before .byte .ensures, ne-eqb _ 1 (c .if4 .taken)))
+    let past = else₂ (c .before) in
+    mark-refused _ _ _ (eq-eqb _ _ (past .before .if1 .left))
+    (rw (lt-ltb _ _ (past .if2 .left), le-leb (past .before .before .before .args .running) 1 (omega arith), ← c .before .byte .ensures, ne-eqb _ 1 (c .if4 .taken)))
 
 put-byte-requires : tie.Need-put-byte-requires
 unfolding records record-size
-put-byte-requires c κs = at (record { sized = c .before .before .before .before .before .before .if1 .left; below = c .before .before .before .before .before .if2 .left }) _ _ (lit≤ tt)
+put-byte-requires c κs = at (record { sized = else₂ (c .before .before) .before .if1 .left; below = else₂ (c .before .before) .if2 .left }) _ _ (lit≤ tt)
 
 same-length-2 : tie.Need-same-length-2
 same-length-2 c = search needs
@@ -52,10 +56,12 @@ same-length-2 c = search needs
 returns-5 : tie.Need-returns-5
 unfolding Mark-promise sheet-sized record-size records may-mark is-live fields record-at parted
 returns-5 c =
-    let running = c .before .before .before .before .before .before .before .before .before .before .before .args .running in
-    mark-done _ _ _ _ (eq-eqb _ _ (c .before .before .before .before .before .before .before .before .before .if1 .left))
-    (rw (lt-ltb _ _ (c .before .before .before .before .before .before .before .before .if2 .left), le-leb running 1 (omega arith), ← c .before .before .before .before .before .byte .ensures, eq-eqb _ 1 (c .before .before .before .before .if4 .left)))
-    (c .before .before .put-byte .kept .0) (c .before .before .put-byte .ensures)
+    let put = c .before .before in
+    let live = put .before .before in
+    let past = else₂ (live .before) in
+    mark-done _ _ _ _ (eq-eqb _ _ (past .before .if1 .left))
+    (rw (lt-ltb _ _ (past .if2 .left), le-leb (past .before .before .before .args .running) 1 (omega arith), ← live .before .byte .ensures, eq-eqb _ 1 (live .if4 .left)))
+    (put .put-byte .kept .0) (put .put-byte .ensures)
 
 pub mark-spec : {M : Type 1} → statement M
 mark-spec =

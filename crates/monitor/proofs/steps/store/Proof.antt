@@ -1,14 +1,15 @@
 -- `monitor::steps::store` meets its contract: each refusal is the definition's, and the bytes that are put are the bytes of the page.
 -- Assumes nothing.
 use mathlib.Core.Path.{_≡_, sym, _∙_}
+use mathlib.Core.Bool.{true}
 use Prim.Native.Nat.{_+_}
-use borrow.Author.Tests.{lt-leb, le-leb, lt-ltb, le-ltb, eq-eqb, ne-eqb, not-true, not-false}
-use lib.Dec.{lit<}
+use borrow.Author.Tests.{lt-leb, le-leb, lt-ltb, le-ltb, not-true, not-false}
+use lib.Dec.{leb, lit<}
 use lib.ListN.{length, getD}
 use denote.Ref.{now}
 use native.Mathlib.Omega.{arith}
 use Rattle.rules.specs.Words.{page-size}
-use Rattle.rules.specs.Machine.{below, N, permitted, table-byte}
+use Rattle.rules.specs.Machine.{below, N, valid, permitted, table-byte}
 use Rattle.rules.specs.Steps.{may-store}
 use Rattle.rules.specs.Flat.{parted, memory-sized}
 use Rattle.rules.specs.Promises.{Store-promise}
@@ -16,6 +17,32 @@ use Rattle.laws.proofs.FlatSteps.{store-unsized, store-refused, store-done, len
 use borrow.Author.Needs.{needs}
 use Rattle.monitor.proofs.steps.store.Statement.{statement}
 use Rattle.monitor.proofs.steps.store.Tie as tie
+
+-- the way back, each place by the one before it
+abbrev start₁ : tie.Else1 → tie.Start
+start₁ c = let known = c .before .before in known .before .before .before
+
+abbrev start₄ : tie.Else4 → tie.Start
+start₄ c = start₁ (c .before .before .before)
+
+abbrev else₄ : tie.After-is-permitted → tie.Else4
+else₄ c = let told = c .before .before in told .before .before
+
+-- what each place knows, in the definition's words
+sized : (c : tie.Else1) → memory-sized (now (start₁ c .args .table)) (now (start₁ c .args .memory)) ≡ true
+unfolding memory-sized
+sized c = sym (c .before .fits2 .ensures) ∙ not-false _ (c .if1 .left)
+
+fits : (c : tie.Else4) → leb (start₄ c .args .offset + length (now (start₄ c .args .bytes))) page-size ≡ true
+unfolding page-size
+fits c = le-leb (start₄ c .args .offset + length (now (start₄ c .args .bytes))) 4096 (omega arith)
+
+good : (c : tie.After-is-permitted) → valid (getD (now (start₄ (else₄ c) .args .table)) (start₄ (else₄ c) .args .page) 0) ≡ true
+good c = sym (c .before .before .is-valid .ensures) ∙ not-false _ (c .before .if5 .left)
+
+permitted-told : (c : tie.After-is-permitted)
+    → permitted (start₄ (else₄ c) .args .vmpl) (getD (now (start₄ (else₄ c) .args .table)) (start₄ (else₄ c) .args .page) 0) ≡ c .is-permitted .result
+permitted-told c = sym (c .is-permitted .ensures)
 
 fits-requires : tie.Need-fits-requires
 fits-requires c κs = search needs
@@ -25,24 +52,20 @@ unfolding Store-promise memory-sized
 returns c = store-unsized _ _ _ _ _ _ (sym (c .before .fits2 .ensures) ∙ not-true _ (c .if1 .taken))
 
 returns-2 : tie.Need-returns-2
-unfolding Store-promise may-store below N table-byte parted page-size memory-sized
-returns-2 c = store-refused _ _ _ _ _ _ (sym (c .before .before .fits2 .ensures) ∙ not-false _ (c .before .if1 .left)) (rw (le-ltb _ _ (c .if2 .taken)))
+unfolding Store-promise may-store below N parted
+returns-2 c = store-refused _ _ _ _ _ _ (sized (c .before)) (rw (le-ltb _ _ (c .if2 .taken)))
 
 returns-3 : tie.Need-returns-3
-unfolding Store-promise may-store below N table-byte parted page-size memory-sized
+unfolding Store-promise may-store below N parted page-size
 returns-3 c =
-    let start = c .before .before .before .before .before .before .before in
-    let offset = start .args .offset in
-    let bytes = now (start .args .bytes) in
-    store-refused _ _ _ _ _ _ (sym (c .before .before .before .fits2 .ensures) ∙ not-false _ (c .before .before .if1 .left)) (rw (lt-ltb _ _ (c .before .if2 .left), lt-leb (offset + length bytes) 4096 (omega arith)))
+    let a = start₁ (c .before .before) .args in
+    store-refused _ _ _ _ _ _ (sized (c .before .before)) (rw (lt-ltb _ _ (c .before .if2 .left), lt-leb (a .offset + length (now (a .bytes))) 4096 (omega arith)))
 
 returns-4 : tie.Need-returns-4
-unfolding Store-promise may-store below N table-byte parted page-size memory-sized
+unfolding Store-promise may-store below N parted page-size
 returns-4 c =
-    let start = c .before .before .before .before .before .before .before .before in
-    let offset = start .args .offset in
-    let bytes = now (start .args .bytes) in
-    store-refused _ _ _ _ _ _ (sym (c .before .before .before .before .fits2 .ensures) ∙ not-false _ (c .before .before .before .if1 .left)) (rw (lt-ltb _ _ (c .before .before .if2 .left), lt-leb (offset + length bytes) 4096 (omega arith)))
+    let a = start₁ (c .before .before .before) .args in
+    store-refused _ _ _ _ _ _ (sized (c .before .before .before)) (rw (lt-ltb _ _ (c .before .before .if2 .left), lt-leb (a .offset + length (now (a .bytes))) 4096 (omega arith)))
 
 shared-slice-read-b : tie.Need-shared-slice-read-b
 shared-slice-read-b c = search needs
@@ -51,61 +74,37 @@ is-valid-requires : tie.Need-is-valid-requires
 is-valid-requires c κs = search needs
 
 returns-5 : tie.Need-returns-5
-unfolding Store-promise may-store below N table-byte parted page-size memory-sized
+unfolding Store-promise may-store below N table-byte parted
 returns-5 c =
-    let start = c .before .before .before .before .before .before .before .before .before .before .before in
-    let offset = start .args .offset in
-    let bytes = now (start .args .bytes) in
-    store-refused _ _ _ _ _ _ (sym (c .before .before .before .before .before .before .before .fits2 .ensures) ∙ not-false _ (c .before .before .before .before .before .before .if1 .left))
-    (rw (lt-ltb _ _ (c .before .before .before .before .before .if2 .left), le-leb (offset + length bytes) 4096 (omega arith), ← c .before .is-valid .ensures, not-true (c .before .is-valid .result) (c .if5 .taken)))
+    let past = c .before .before .before in
+    store-refused _ _ _ _ _ _ (sized (past .before .before .before)) (rw (lt-ltb _ _ (past .before .before .if2 .left), fits past, ← c .before .is-valid .ensures, not-true (c .before .is-valid .result) (c .if5 .taken)))
 
 is-permitted-requires : tie.Need-is-permitted-requires
 is-permitted-requires c κs = search needs
 
 returns-6 : tie.Need-returns-6
-unfolding Store-promise may-store below N table-byte parted page-size memory-sized
+unfolding Store-promise may-store below N table-byte parted
 returns-6 c =
-    let start = c .before .before .before .before .before .before .before .before .before .before .before .before .before in
-    let offset = start .args .offset in
-    let bytes = now (start .args .bytes) in
-    let says : c .before .is-permitted .result ≡ permitted (start .args .vmpl) (getD (now (start .args .table)) (start .args .page) 0) = c .before .is-permitted .ensures in
-    store-refused _ _ _ _ _ _ (sym (c .before .before .before .before .before .before .before .before .before .fits2 .ensures) ∙ not-false _ (c .before .before .before .before .before .before .before .before .if1 .left))
-    (rw (
-      lt-ltb _ _ (c .before .before .before .before .before .before .before .if2 .left),
-      le-leb (offset + length bytes) 4096 (omega arith),
-      ← c .before .before .before .is-valid .ensures,
-      not-false (c .before .before .before .is-valid .result) (c .before .before .if5 .left),
-      ← says,
-      not-true (c .before .is-permitted .result) (c .if6 .taken),
-    ))
+    let past = else₄ (c .before) in
+    store-refused _ _ _ _ _ _ (sized (past .before .before .before)) (rw (lt-ltb _ _ (past .before .before .if2 .left), fits past, good (c .before), permitted-told (c .before) ∙ not-true _ (c .if6 .taken)))
 
 put-bytes-requires : tie.Need-put-bytes-requires
-unfolding memory-sized page-size
+unfolding page-size
 put-bytes-requires c κs =
-    let start = c .before .before .before .before .before .before .before .before .before .before .before .before .before .before in
-    let pages = length-pages (now (start .args .table)) (now (start .args .memory)) (sym (c .before .before .before .before .before .before .before .before .before .before .fits2 .ensures) ∙ not-false _ (c .before .before .before .before .before .before .before .before .before .if1 .left)) in
-    record { some = lit< tt; below = omega (arith, c .before .before .before .before .before .before .before .before .if2 .left); within = omega arith }
+    let past = else₄ (c .before .before) in
+    record { some = lit< tt; below = omega (arith, length-pages _ _ (sized (past .before .before .before)), past .before .before .if2 .left); within = omega arith }
 
 same-length : tie.Need-same-length
 same-length c = search needs
 
 returns-7 : tie.Need-returns-7
-unfolding Store-promise may-store below N table-byte parted page-size memory-sized
+unfolding Store-promise may-store below N table-byte parted page-size
 returns-7 c =
-    let start = c .before .before .before .before .before .before .before .before .before .before .before .before .before .before .before .before .before in
-    let offset = start .args .offset in
-    let bytes = now (start .args .bytes) in
-    let says : c .before .before .before .before .before .is-permitted .result ≡ permitted (start .args .vmpl) (getD (now (start .args .table)) (start .args .page) 0) = c .before .before .before .before .before .is-permitted .ensures in
-    store-done _ _ _ _ _ _ _ (sym (c .before .before .before .before .before .before .before .before .before .before .before .before .before .fits2 .ensures) ∙ not-false _ (c .before .before .before .before .before .before .before .before .before .before .before .before .if1 .left))
-    (rw (
-      lt-ltb _ _ (c .before .before .before .before .before .before .before .before .before .before .before .if2 .left),
-      le-leb (offset + length bytes) 4096 (omega arith),
-      ← c .before .before .before .before .before .before .before .is-valid .ensures,
-      not-false (c .before .before .before .before .before .before .before .is-valid .result) (c .before .before .before .before .before .before .if5 .left),
-      ← says,
-      not-false (c .before .before .before .before .before .is-permitted .result) (c .before .before .before .before .if6 .left),
-    ))
-    (c .before .before .put-bytes .kept .0) (c .before .before .put-bytes .ensures)
+    let put = c .before .before in
+    let asked = put .before .before .before in
+    let past = else₄ asked in
+    store-done _ _ _ _ _ _ _ (sized (past .before .before .before)) (rw (lt-ltb _ _ (past .before .before .if2 .left), fits past, good asked, permitted-told asked ∙ not-false _ (put .before .before .if6 .left)))
+    (put .put-bytes .kept .0) (put .put-bytes .ensures)
 
 pub store-spec : {M : Type 1} → statement M
 store-spec =
