@@ -1,6 +1,6 @@
 -- What a check that is passed has told: of the caller, of a list's page, of the pages and the record that a call is to change, of a launch.
 -- A law `past-..` says of a call that what holds before it, and of its effect once all checks are passed, holds after it.
-use mathlib.Core.Path.{_≡_, refl, sym, _∙_, ap}
+use mathlib.Core.Path.{_≡_, sym, _∙_, ap}
 use mathlib.Core.Bool.{Bool, true, false, not, _&&_, _||_, and-eq-true-iff}
 use mathlib.Core.List.{List, []}
 use Prim.Native.Nat.{ℕ, _-_, _/_, _^_, _<_, _≤_}
@@ -18,7 +18,7 @@ use Rattle.rules.specs.declared.Plan.{Plan}
 use Rattle.rules.specs.Answers.{Answered, refuse, launched-number}
 use Rattle.rules.specs.Words.{page-size, records, between, bit, bits, multiple, every, exists, places}
 use Rattle.rules.specs.Machine.{Lent, Machine, N, below, page-of, offset-of, page-at, owner, valid, table-byte, owned-by, usable}
-use Rattle.rules.specs.Machine.{with-memory, write, grant, own, change, fields, is-live, needs-page, record-at, vcpu, startup, vmsa-vmpl, vmsa-features, efer}
+use Rattle.rules.specs.Machine.{with-memory, write, grant, own, fields, is-live, needs-page, record-at, vcpu, startup, vmsa-vmpl, vmsa-features, efer}
 use Rattle.rules.specs.Launch.{out-of-range, areas-meet, unfit-vmsa, made, launch}
 use Rattle.rules.specs.Sound.{bad-record}
 use Rattle.rules.specs.Lists.{bad-list-page, bad-count, bad-next, run-within, list-call}
@@ -27,10 +27,9 @@ use Rattle.rules.specs.Calls.{deleted, named-by, delete, withdrawn-pages, give-
 use Rattle.rules.specs.Call.{bad-sheet, bad-machine}
 use Rattle.laws.proofs.Ranges.{by-test, lowest-passes, exists-lowest, every-take, places-read, Rising, rising-take, rising-places, or-false}
 use Rattle.safety.proofs.Small.{and-false→, one-holds, among}
-use Rattle.laws.proofs.Counts.{table-byte-each}
-use Rattle.laws.proofs.TableByte.{owner-grant, owner-own}
+use Rattle.laws.proofs.Counts.{table-byte-each, table-byte-each-other}
 use Rattle.safety.proofs.Branches.{past, passed}
-use Rattle.safety.proofs.Effects.{owned-below}
+use Rattle.safety.proofs.Effects.{owned-below, give-back-table}
 
 -- ---- the caller
 
@@ -145,16 +144,18 @@ free-owner b e = eqb-true (owner b) 3 e
 pub given-free : (rcx p : ℕ) (m : Lent) → exists (eqb p) (withdrawn-pages rcx m) ≡ true → owner (table-byte m p) ≡ 3
 given-free rcx p m e = free-owner _ (among (λ q. is-free (table-byte m q)) p (withdrawn-pages rcx m) (withdrawn-free rcx m) e)
 
--- and is plain after it
-pub given-plain : (vmpl rcx p : ℕ) (m : Lent) → exists (eqb p) (withdrawn-pages rcx m) ≡ true → owned-by 0 (withdrawn vmpl rcx m) p ≡ true
-unfolding withdrawn give-back write with-memory owned-by table-byte N
-given-plain vmpl rcx p m e =
-    let byte = table-byte-each (λ b. grant vmpl (own 0 b)) (give-back vmpl) (changes vmpl) (withdrawn-rising rcx m) m p e
-    (owned-below m p 3 (given-free rcx p m e) (omega arith)) in
-    rw (byte, owner-grant, owner-own 0 (getD (m .table) p 0) refl)
-  where
-    changes : (vmpl p : ℕ) (m : Lent) → give-back vmpl p m .table ≡ change (λ b. grant vmpl (own 0 b)) p m .table
-    changes vmpl p m = refl
+module _ (vmpl rcx p : ℕ) (m : Lent) where
+  -- and is plain and granted after it
+  pub given-byte : exists (eqb p) (withdrawn-pages rcx m) ≡ true → table-byte (withdrawn vmpl rcx m) p ≡ grant vmpl (own 0 (table-byte m p))
+  unfolding withdrawn write with-memory table-byte N
+  given-byte e =
+      table-byte-each (λ b. grant vmpl (own 0 b)) (give-back vmpl) (give-back-table vmpl) (withdrawn-rising rcx m) m p e
+      (owned-below m p 3 (given-free rcx p m e) (omega arith))
+
+  -- each other page is as it was
+  pub not-given-byte : exists (eqb p) (withdrawn-pages rcx m) ≡ false → table-byte (withdrawn vmpl rcx m) p ≡ table-byte m p
+  unfolding withdrawn write with-memory table-byte
+  not-given-byte e = table-byte-each-other (λ b. grant vmpl (own 0 b)) (give-back vmpl) (give-back-table vmpl) (withdrawn-pages rcx m) m p e
 
 -- ---- Remap
 

@@ -11,14 +11,14 @@ use lib.Seq.{sets, set-out, getD-set-same, getD-set-other}
 use borrow.Author.Tests.{eqb-true, eqb-false, ne-eqb, ltb-true, ltb-false}
 use Rattle.rules.specs.declared.Wish.{Wish}
 use Rattle.rules.specs.declared.Wish.the-variants.{Invalid, Valid, Pool}
-use Rattle.rules.specs.Words.{record-size, bits, little, range}
+use Rattle.rules.specs.Words.{record-size, bits, little, range, each}
 use Rattle.rules.specs.Machine.{Lent, N, page-at, with-memory, written, write, zeros, fill, owner, grant, revoke, own, table-byte, put, change}
 use Rattle.rules.specs.Machine.{holds, needs-page, record-at, vcpu, startup, amend}
 use Rattle.rules.specs.Lists.{wished, cleared, carry-out, carry-out-all}
 use Rattle.rules.specs.Calls.{remapped, Asked, free-page, new-record, created, clear-svme, deleted, give-back, withdrawn-pages, withdrawn}
 use Rattle.laws.proofs.Ranges.{by-test, each-same}
 use Rattle.laws.proofs.Numbers.{getD-sets-elsewhere}
-use Rattle.laws.proofs.Counts.{sheet-each}
+use Rattle.laws.proofs.Counts.{memory-each, sheet-each}
 use Rattle.safety.proofs.Small.{implied}
 use Rattle.safety.proofs.Branches.{on-test}
 
@@ -198,10 +198,15 @@ module _ (vmpl p : ℕ) (m : Lent) where
   unfolding give-back change put
   give-back-sheet = refl
 
-  -- and the number of pages
-  pub give-back-N : N (give-back vmpl p m) ≡ N m
+  -- the table, as a change of one byte
+  pub give-back-table : give-back vmpl p m .table ≡ change (λ b. grant vmpl (own 0 b)) p m .table
   unfolding give-back
-  give-back-N = change-N (λ b. grant vmpl (own 0 b)) p m
+  give-back-table = refl
+
+-- pages given back keep their bytes, and so does every other
+pub given-memory : (vmpl : ℕ) (ps : List ℕ) (m : Lent) → each (give-back vmpl) ps m .memory ≡ m .memory
+unfolding give-back
+given-memory vmpl ps m = memory-each _ ps m
 
 -- ---- the calls
 

@@ -1,12 +1,10 @@
 -- The entries of a list: what one that reads says of its pages, and that a run over the list keeps what each of its entries and the stored index keep.
-use mathlib.Core.Path.{_≡_, refl, sym, _∙_}
-use mathlib.Core.Bool.{Bool, true, false, cond, not, _&&_, and-eq-true-iff}
-use mathlib.Core.List.{List, [], _∷_}
+use mathlib.Core.Path.{_≡_, refl, _∙_}
+use mathlib.Core.Bool.{Bool, true, false, cond, not, _&&_, and-false, and-eq-true-iff}
 use Prim.Native.Nat.{ℕ, zero, suc, _+_, _<_, _≤_}
 use native.Mathlib.Omega.{arith}
 use lib.Dec.{eqb, ltb}
-use lib.Seq.{getD-set-other}
-use borrow.Author.Tests.{eqb-true, eqb-false, ltb-true, not-true}
+use borrow.Author.Tests.{eq-eqb, eqb-true, ltb-true}
 use Rattle.rules.specs.declared.Code.{Code}
 use Rattle.rules.specs.declared.Entry.{Entry}
 use Rattle.rules.specs.declared.Entry.the-variants.{Reads, Unread}
@@ -15,12 +13,14 @@ use Rattle.rules.specs.declared.ListCall.the-variants.{Pvalidate, Deposit}
 use Rattle.rules.specs.declared.Wish.{Wish}
 use Rattle.rules.specs.declared.Wish.the-variants.{Invalid, Valid, Pool}
 use Rattle.rules.specs.Answers.{Answered}
-use Rattle.rules.specs.Words.{bit, range, every, each}
-use Rattle.rules.specs.Machine.{Lent, N, below, page-of, page-at, with-memory, write, fill, owner, valid, table-byte, put, owned-by, usable, record-at, vcpu}
-use Rattle.rules.specs.Lists.{in-list, list-count, list-next, list-entry, store-index, entry-first, entry-pages, covered, malformed, coverable}
-use Rattle.rules.specs.Lists.{read-covered, read-entry, cleared, carry-out, carry-out-all, after-entry, run, run-within}
+use Rattle.rules.specs.Words.{bit, range, every}
+use Rattle.rules.specs.Machine.{Lent, N, below, page-of, page-at, with-memory, write, owner, valid, table-byte, owned-by, usable, record-at, vcpu}
+use Rattle.rules.specs.Lists.{in-list, list-count, list-entry, store-index, entry-first, entry-pages, covered, malformed, coverable}
+use Rattle.rules.specs.Lists.{read-covered, read-entry, carry-out, carry-out-all, after-entry, run, run-within}
 use Rattle.laws.proofs.Ranges.{by-test, every-range→}
+use Rattle.safety.proofs.Small.{not-among}
 use Rattle.safety.proofs.Effects.{entry-sheet}
+use Rattle.safety.proofs.Elsewhere.{carry-elsewhere, each-elsewhere}
 
 -- ---- an entry that reads
 
@@ -137,37 +137,22 @@ entry-read call caller rcx e first n wish m h =
 
 -- ---- the list's page, which an entry that reads does not cover
 
-page-elsewhere : (wish : Wish) (vmpl p q : ℕ) (m : Lent) → eqb p q ≡ false → page-at (carry-out wish vmpl p m) q ≡ page-at m q
-unfolding carry-out cleared fill put with-memory page-at
-page-elsewhere Invalid vmpl p q m e = refl
-page-elsewhere Valid vmpl p q m e = getD-set-other (m .memory) p q _ [] (λ f. eqb-false p q e (sym f))
-page-elsewhere Pool vmpl p q m e = refl
-
-pages-elsewhere : (wish : Wish) (vmpl caller rcx : ℕ) (ps : List ℕ) (m now : Lent) → every (coverable caller rcx m) ps ≡ true
-    → page-at (each (carry-out wish vmpl) ps now) (page-of rcx) ≡ page-at now (page-of rcx)
-unfolding every each coverable
-pages-elsewhere wish vmpl caller rcx [] m now h = refl
-pages-elsewhere wish vmpl caller rcx (p ∷ ps) m now h =
-    let both = and-eq-true-iff (coverable caller rcx m p) (every (coverable caller rcx m) ps) .0 h in
-    let other = and-eq-true-iff (below m p && owned-by 0 m p) (not (eqb p (page-of rcx))) .0 (both .0) .1 in
-    pages-elsewhere wish vmpl caller rcx ps m (carry-out wish vmpl p now) (both .1)
-    ∙ page-elsewhere wish vmpl p (page-of rcx) now (not-true _ other)
+list-uncoverable : (caller rcx : ℕ) (m : Lent) → coverable caller rcx m (page-of rcx) ≡ false
+unfolding coverable
+list-uncoverable caller rcx m = simp (eq-eqb (page-of rcx) (page-of rcx) refl, and-false)
 
 module _ (call : ListCall) (caller rcx e first n : ℕ) (wish : Wish) (m : Lent) (h : read-entry call caller rcx e m ≡ Reads first n wish) where
   -- the page is as it was
   pub list-kept : page-at (carry-out-all wish (vcpu m caller .vmpl) first n m) (page-of rcx) ≡ page-at m (page-of rcx)
   unfolding carry-out-all
-  list-kept = pages-elsewhere wish (vcpu m caller .vmpl) caller rcx (range first n) m m (entry-read call caller rcx e first n wish m h .passed)
+  list-kept =
+      each-elsewhere (carry-out wish (vcpu m caller .vmpl)) (page-of rcx) (carry-elsewhere wish (vcpu m caller .vmpl) (page-of rcx)) (range first n) m
+      (not-among (coverable caller rcx m) (page-of rcx) (range first n) (entry-read call caller rcx e first n wish m h .passed) (list-uncoverable caller rcx m)) .page
 
   -- so the list's count
   pub count-kept : list-count rcx (carry-out-all wish (vcpu m caller .vmpl) first n m) ≡ list-count rcx m
   unfolding list-count in-list
   count-kept = rw list-kept
-
-  -- its index
-  pub next-kept : list-next rcx (carry-out-all wish (vcpu m caller .vmpl) first n m) ≡ list-next rcx m
-  unfolding list-next in-list
-  next-kept = rw list-kept
 
   -- and its entries are as they were
   pub entry-kept : (k : ℕ) → list-entry k rcx (carry-out-all wish (vcpu m caller .vmpl) first n m) ≡ list-entry k rcx m

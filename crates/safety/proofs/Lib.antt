@@ -2,6 +2,7 @@
 pub mod Small
 pub mod Branches
 pub mod Effects
+pub mod Elsewhere
 pub mod Entries
 pub mod Checks
 pub mod Keeping

@@ -1,7 +1,7 @@
 -- Statement 10, confined: a call by VMPL c gives no page a permission above c, and no vCPU of a VMPL below c is made, changed or deleted. Of every machine.
 use mathlib.Core.Path.{_≡_, refl, sym, _∙_, ap}
 use mathlib.Core.Logic.{inl}
-use mathlib.Core.Bool.{true, false, cond, not, _||_, true≢false}
+use mathlib.Core.Bool.{cond, not, _||_, true≢false}
 use mathlib.Core.List.{List, []}
 use Prim.Native.Nat.{ℕ, _≤_}
 use native.Mathlib.Omega.{arith}

@@ -20,7 +20,7 @@ use Rattle.rules.specs.Lists.{list-next, list-entry, store-index, covered, read
 use Rattle.laws.proofs.Ranges.{by-test, each-same}
 use Rattle.safety.specs.Terms.{covers, Uncovered}
 use Rattle.safety.proofs.Entries.{entry-read, list-kept, entry-kept}
-use Rattle.safety.proofs.Kept.Untouched.{Untouched, untouched-twice, untouched-here, write-elsewhere, carry-elsewhere, each-elsewhere}
+use Rattle.safety.proofs.Elsewhere.{Untouched, untouched-twice, untouched-here, write-elsewhere, carry-elsewhere, each-elsewhere}
 use Rattle.safety.proofs.Pool.Bytes.{in-list-written}
 use Rattle.safety.proofs.Always.SecondValidation.{covers-listed}
 

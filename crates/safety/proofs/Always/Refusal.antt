@@ -99,40 +99,15 @@ run-stopped call caller rcx (suc todo) k m b h =
 
 -- ---- each call, before the last writes
 
--- a list refused at an entry
-record Ran (budget : ℕ) (call : ListCall) (caller rcx : ℕ) (m : Lent) (a : Answered Code Lent) : Type 0 where
-  entry : ℕ
-  from : list-next rcx m ≤ entry
-  within : entry < list-next rcx m + budget
-  below : entry < list-count rcx m
-  before : Lent
-  earlier : run-within (entry - list-next rcx m) call caller rcx m ≡ record { answer = Incomplete; after = before }
-  code : Code
-  unread : read-entry call caller rcx (list-entry entry rcx m) before ≡ Unread code
-  told : a .answer ≡ code
-  reached : a .after ≡ before
+-- a list call's run: as many entries as are left, and no more than a call takes
+abbrev Ran : ListCall → ℕ → ℕ → Lent → Answered Code Lent → Type 0
+Ran call caller rcx m = Stopped call caller rcx (min entries-a-call (list-count rcx m - list-next rcx m)) (list-next rcx m) m
 
-within-stopped : (budget : ℕ) (call : ListCall) (caller rcx : ℕ) (m : Lent) → list-next rcx m < list-count rcx m
-    → refuses (run-within budget call caller rcx m .answer) ≡ true
-    → Ran budget call caller rcx m (run-within budget call caller rcx m)
+within-stopped : (call : ListCall) (caller rcx : ℕ) (m : Lent) → list-next rcx m < list-count rcx m
+    → refuses (run-within entries-a-call call caller rcx m .answer) ≡ true
+    → Ran call caller rcx m (run-within entries-a-call call caller rcx m)
 unfolding run-within
-within-stopped budget call caller rcx m less h =
-    let next = list-next rcx m in
-    let count = list-count rcx m in
-    let s = run-stopped call caller rcx (min budget (count - next)) next m (omega arith) h in
-    let same : min (s .entry - next) (count - next) ≡ s .entry - next = omega (arith, s .below, s .from) in
-    record {
-      entry = s .entry;
-      from = s .from;
-      within = omega (arith, s .within);
-      below = s .below;
-      before = s .before;
-      earlier = rw same (s .earlier);
-      code = s .code;
-      unread = s .unread;
-      told = s .told;
-      reached = s .reached;
-    }
+within-stopped call caller rcx m less h = run-stopped call caller rcx _ (list-next rcx m) m (omega arith) h
 
 succeeds : {A : Type 0} → refuses Success ≡ true → A
 unfolding refuses code-number
@@ -213,7 +188,7 @@ record Left (caller : ℕ) (g : Registers) (m : Lent) (a : Answered Code (Posed 
   registers : a .after .registers ≡ g
   sheet : a .after .machine .lent .sheet ≡ m .sheet
   at-entry : (call : ListCall) → begun call caller g m ≡ true
-      → Ran entries-a-call call caller (g .rcx) m (record { answer = a .answer; after = a .after .machine .lent })
+      → Ran call caller (g .rcx) m (record { answer = a .answer; after = a .after .machine .lent })
   elsewhere : ((call : ListCall) → begun call caller g m ≡ false) → a .after .machine .lent ≡ m
 
 module _ (caller : ℕ) (g : Registers) (m : Machine) where
@@ -292,12 +267,12 @@ module _ (caller : ℕ) (g : Registers) (m : Machine) where
 
   -- and was refused at one of them
   handle-ran : (call : ListCall) → Begins call → (a : Answered Code (Posed Registers Machine)) → handle caller posed ≡ a → refuses (a .answer) ≡ true
-      → Ran entries-a-call call caller (g .rcx) (m .lent) (record { answer = a .answer; after = a .after .machine .lent })
+      → Ran call caller (g .rcx) (m .lent) (record { answer = a .answer; after = a .after .machine .lent })
   unfolding on-lent with-lent
   handle-ran call b a is h =
       let runs = list-run (m .lent) entries-a-call call caller (g .rcx) (b .head) in
       let same = sym is ∙ dispatched call b ∙ ap (λ x. on-lent x posed) (runs .0) in
-      rw same (within-stopped entries-a-call call caller (g .rcx) (m .lent) (runs .1) (rw same at h))
+      rw same (within-stopped call caller (g .rcx) (m .lent) (runs .1) (rw same at h))
 
   handle-leaves : no-call caller g (m .lent) ≡ false → refuses (handle caller posed .answer) ≡ true → Left caller g (m .lent) (handle caller posed)
   unfolding no-call
@@ -322,17 +297,21 @@ last-writes-sheet caller m = refl
 
 -- at the entry where the list was refused
 left-at-entry : (call : ListCall) (caller : ℕ) (g : Registers) (m : Lent) (a : Answered Code Lent) (r : Registers) → r .rax ≡ code-number (a .answer)
-    → Ran entries-a-call call caller (g .rcx) m a
+    → Ran call caller (g .rcx) m a
     → At-entry call caller g m (record { registers = r; machine = record { lent = last-writes caller (a .after) } })
-unfolding entries-a-call
+unfolding entries-a-call run-within
 left-at-entry call caller g m a r rax ran =
+    let next = list-next (g .rcx) m in
+    let count = list-count (g .rcx) m in
+    let same : min (ran .entry - next) (count - next) ≡ ran .entry - next = omega (arith, ran .below, ran .from) in
+    let earlier : run-within (ran .entry - next) call caller (g .rcx) m ≡ record { answer = Incomplete; after = ran .before } = rw same (ran .earlier) in
     record {
       entry = ran .entry;
       from = ran .from;
-      within = ran .within;
+      within = omega (arith, ran .within);
       below = ran .below;
       before = ran .before;
-      earlier = ran .earlier;
+      earlier = earlier;
       code = ran .code;
       unread = ran .unread;
       told = rax ∙ ap code-number (ran .told);

@@ -2,7 +2,7 @@
 -- of a page.
 use mathlib.Core.Path.{_≡_, refl, sym, _∙_, ap}
 use mathlib.Core.Logic.{_⊎_, inl, inr}
-use mathlib.Core.Bool.{true, false, cond, _&&_, true≢false, and-eq-true-iff}
+use mathlib.Core.Bool.{true, false, cond, true≢false, and-eq-true-iff}
 use mathlib.Core.List.{List, [], _∷_}
 use Prim.Native.Nat.{ℕ, suc, _+_, _-_, _*_, min, _<_, _≤_}
 use native.Mathlib.Omega.{arith}
@@ -25,7 +25,7 @@ use Rattle.rules.specs.Call.{Posed, protocol, call-number, on-lent, on-rcx, han
 use Rattle.rules.specs.Runs.{called, asks-for, handled-as}
 use Rattle.laws.proofs.Ranges.{by-test, or-false}
 use Rattle.laws.proofs.Numbers.{getD-sets-elsewhere}
-use Rattle.safety.specs.Terms.{unreal, last-writes, number-of-list-call, Invalid-by, on-entry, by-entry, Invalidated-before}
+use Rattle.safety.specs.Terms.{unreal, number-of-list-call, Invalid-by, on-entry, by-entry, Invalidated-before}
 use Rattle.safety.specs.Statements.{On-machines, Validation-law, Revalidation-law, Passed-law}
 use Rattle.safety.proofs.Branches.{Asks, on-handle, called-real, real-call}
 use Rattle.safety.proofs.Checks.{past-head, past-list}

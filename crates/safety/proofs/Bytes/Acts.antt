@@ -11,7 +11,7 @@ use Rattle.rules.specs.Answers.{refuse}
 use Rattle.rules.specs.Machine.{Machine}
 use Rattle.rules.specs.Sound.{sound}
 use Rattle.rules.specs.Flat.{Buffers, parted, joined, well-sized, sound-bytes, call-bytes, registers-of, door-bytes}
-use Rattle.rules.specs.Runs.{Step, calls, stores, marks, called, step, run-steps, taken-in, given-back, over-run}
+use Rattle.rules.specs.Runs.{Step, calls, stores, marks, step, run-steps, taken-in, given-back, over-run}
 use Rattle.laws.proofs.Ranges.{by-test}
 use Rattle.laws.proofs.FlatLaunch.{joined-parted}
 use Rattle.safety.specs.Terms.{deletes, gives-back, succeeds, all-succeed, Act, call-act, store-act, mark-act, act, acts}

@@ -1,21 +1,20 @@
 -- What holds of every call on machines holds on bytes, and at the door: registers of 48 bytes fit 64 bits each, a call leaves them so, and so they are read back as
 -- they are.
-use mathlib.Core.Path.{_≡_, refl}
+use mathlib.Core.Path.{_≡_}
 use mathlib.Core.Bool.{true, false}
 use mathlib.Core.List.{List, []}
-use Prim.Native.Nat.{ℕ, _+_, _*_, _^_, _<_}
+use Prim.Native.Nat.{ℕ, _+_, _^_, _<_}
 use native.Mathlib.Omega.{arith}
 use lib.Dec.{eqb}
 use lib.ListN.{length, getD}
 use Rattle.rules.specs.declared.Registers.{Registers}
-use Rattle.rules.specs.declared.Outcome.the-variants.{BadMachine}
 use Rattle.rules.specs.declared.Code.{Code}
-use Rattle.rules.specs.Words.{registers-size, little, number, bits, bit}
+use Rattle.rules.specs.Words.{registers-size, little, number}
 use Rattle.rules.specs.Answers.{Answered, refuse}
 use Rattle.rules.specs.Machine.{Lent, Machine, is-live, record-at}
 use Rattle.rules.specs.Calls.{query, configure, vtom}
-use Rattle.rules.specs.Call.{Posed, with-rax, with-rcx, bad-machine, no-call, on-lent, on-rcx, handle, finish, call}
-use Rattle.rules.specs.Flat.{Buffers, parted, joined, well-sized, registers-of, register-bytes, call-bytes, door-bytes}
+use Rattle.rules.specs.Call.{Posed, with-rax, with-rcx, on-lent, on-rcx, handle, finish, call}
+use Rattle.rules.specs.Flat.{Buffers, parted, registers-of, register-bytes, call-bytes, door-bytes}
 use Rattle.rules.specs.Runs.{called}
 use Rattle.laws.proofs.Ranges.{by-test}
 use Rattle.laws.proofs.Numbers.{number-below, number-little-fits}

@@ -19,7 +19,8 @@ use Rattle.safety.proofs.Effects.{owned-below, change-same}
 use Rattle.safety.proofs.Branches.{on-test}
 use Rattle.safety.proofs.Checks.{Remap-fit, past-remap, Create-fit, past-create, past-delete}
 use Rattle.safety.proofs.Pool.Counts.{pooled, in-pool-owner}
-use Rattle.safety.proofs.Kept.Untouched.{Untouched, untouched-twice, untouched-here, write-elsewhere, change-elsewhere, amend-leaves, guarded, apart}
+use Rattle.safety.proofs.Elsewhere.{Untouched, untouched-twice, untouched-here, write-elsewhere, change-elsewhere, amend-leaves}
+use Rattle.safety.proofs.Kept.Untouched.{guarded, apart}
 
 -- the pages that a live record names have their owners
 pub record Owned (i : ℕ) (m : Lent) : Type 0 where

@@ -1,5 +1,5 @@
 -- A page that Withdraw gives back: it is plain after the call and told by the list, which the last writes leave.
-use mathlib.Core.Path.{_≡_, _∙_}
+use mathlib.Core.Path.{_≡_, refl, _∙_}
 use mathlib.Core.Bool.{true}
 use Prim.Native.Nat.{ℕ, _≤_}
 use native.Mathlib.Omega.{arith}
@@ -16,10 +16,11 @@ use Rattle.rules.specs.Calls.{withdrawn-pages, withdrawn}
 use Rattle.rules.specs.Call.{Posed, with-rax, clear-pending, set-flag, finish}
 use Rattle.rules.specs.Runs.{asks-for}
 use Rattle.laws.proofs.Ranges.{by-test}
+use Rattle.laws.proofs.TableByte.{owner-grant, owner-own}
 use Rattle.safety.specs.Terms.{succeeded-by, given-back-by}
 use Rattle.safety.proofs.Effects.{withdrawn-sheet}
 use Rattle.safety.proofs.Branches.{Asks}
-use Rattle.safety.proofs.Checks.{Caller, List-page, given-plain}
+use Rattle.safety.proofs.Checks.{Caller, List-page, given-byte}
 use Rattle.safety.proofs.Sound.Facts.{Sound}
 use Rattle.safety.proofs.Sound.Sizes.{few-pages, page-there, page-whole}
 use Rattle.safety.proofs.Pool.Bytes.{offset-eight, list-behind, finish-list}
@@ -36,7 +37,7 @@ pub record Given (caller rcx p : ℕ) (after : Lent) : Type 0 where
 -- Withdraw
 pub withdrawn-gives : (caller rcx p : ℕ) (m : Lent) → Sound m → Caller caller m → multiple 8 rcx ≡ true → List-page rcx m
     → exists (eqb p) (withdrawn-pages rcx m) ≡ true → Given caller rcx p (withdrawn (vcpu m caller .vmpl) rcx m)
-unfolding vcpu startup record-at
+unfolding vcpu startup record-at owned-by
 withdrawn-gives caller rcx p m s c even page e =
     let vmpl = vcpu m caller .vmpl in
     let sheet = withdrawn-sheet vmpl rcx m in
@@ -44,7 +45,7 @@ withdrawn-gives caller rcx p m s c even page e =
     let behind = list-behind m s rcx even page in
     record {
       live = rw sheet (c .live);
-      owned = given-plain vmpl rcx p m e;
+      owned = rw (given-byte vmpl rcx p m e, owner-grant, owner-own 0 (table-byte m p) refl);
       told = withdrawn-told vmpl rcx m p there (page-whole m (s .memories) (page-of rcx) there) (offset-eight rcx even) (few-pages m (s .tables)) e;
       mine = λ h. omega (arith, behind caller (c .below) (c .live) (rw sheet at h));
       first = λ h. omega (arith, behind 0 (omega (arith, c .below)) (c .started) (rw sheet at h));

@@ -32,8 +32,9 @@ use Rattle.safety.proofs.Sound.Rows.{startup-lives}
 use Rattle.safety.proofs.Keeping.{Each-keeps, handle-keeps}
 use Rattle.safety.proofs.Pool.Counts.{pooled, in-pool-owner}
 use Rattle.safety.proofs.Kept.Sealed.{sealed-page}
-use Rattle.safety.proofs.Kept.Untouched.{Untouched, untouched-here, untouched-twice, write-elsewhere, amend-leaves, guarded}
-use Rattle.safety.proofs.Kept.Untouched.{kept-page, list-call-leaves, withdraw-leaves}
+use Rattle.safety.proofs.Elsewhere.{Untouched, untouched-here, untouched-twice, write-elsewhere, amend-leaves, kept-page}
+use Rattle.safety.proofs.Kept.Untouched.{guarded}
+use Rattle.safety.proofs.Kept.Untouched.{list-call-leaves, withdraw-leaves}
 use Rattle.safety.proofs.Kept.Given.{Given, withdrawn-gives, finish-gives}
 use Rattle.safety.proofs.Kept.Fates.{Owned, Fate, same, turned, excused, calling-low, then-untouched, remap-leaves, create-fate, delete-fate}
 

@@ -1,7 +1,7 @@
 -- For statement 6: what one round, a store and a Withdraw by the startup vCPU, does to the pages, and how many it gives back.
 use mathlib.Core.Path.{_≡_, refl, sym, _∙_, ap}
 use mathlib.Core.Logic.{_⊎_, inl, inr}
-use mathlib.Core.Bool.{true, false, cond, not, and-eq-true-iff}
+use mathlib.Core.Bool.{true, false, cond, and-eq-true-iff}
 use mathlib.Core.List.{List, [], _∷_}
 use Prim.Native.Nat.{ℕ, _+_, _-_, _*_, _/_, _<_, _≤_, min}
 use native.Mathlib.Omega.{arith}
@@ -9,26 +9,26 @@ use lib.Dec.{eqb}
 use lib.ListN.{length, length-take}
 use lib.Seq.{sets, getD-set-same}
 use borrow.Author.Tests.{eqb-true, eqb-false, ne-eqb}
-use Rattle.rules.specs.Words.{page-size, records, between, little, number, every, exists, count, places, each}
-use Rattle.rules.specs.Machine.{Lent, N, offset-of, page-at, with-memory, write, owner, valid, permitted, grant, own, table-byte, put, change}
+use Rattle.rules.specs.Words.{page-size, records, between, little, number, every, exists, places, each}
+use Rattle.rules.specs.Machine.{Lent, N, offset-of, page-at, with-memory, write, owner, valid, permitted, grant, own, table-byte}
 use Rattle.rules.specs.Machine.{vcpu, startup}
 use Rattle.rules.specs.Sound.{pages-sized}
 use Rattle.rules.specs.Lists.{in-list}
 use Rattle.rules.specs.Calls.{is-free, any-free, withdrawn-pages, give-back, gpas, withdrawn}
 use Rattle.rules.specs.Call.{pending, clear-pending, set-flag}
-use Rattle.laws.proofs.Ranges.{by-test, each-same, rising→absent, length-places}
-use Rattle.laws.proofs.Counts.{table-byte-each, table-byte-each-other, count-each-down}
+use Rattle.laws.proofs.Ranges.{by-test, rising→absent, length-places}
+use Rattle.laws.proofs.Counts.{count-each-down}
 use Rattle.laws.proofs.Numbers.{number-written, number-elsewhere}
 use Rattle.laws.proofs.TableByte.{byte·simp}
 use Rattle.safety.specs.Terms.{free}
-use Rattle.safety.proofs.Effects.{same-startup, withdrawn-sheet, memory-written, page-written, owned-below}
-use Rattle.safety.proofs.Checks.{withdrawn-rising, withdrawn-free, given-free}
+use Rattle.safety.proofs.Effects.{give-back-table, given-memory, same-startup, withdrawn-sheet, memory-written, page-written, owned-below}
+use Rattle.safety.proofs.Checks.{withdrawn-rising, withdrawn-free, given-free, given-byte, not-given-byte}
 use Rattle.safety.proofs.Sound.Facts.{Sound}
 use Rattle.safety.proofs.Sound.Sizes.{page-whole}
 use Rattle.safety.proofs.Sound.Rows.{startup-lives, startup-range}
 use Rattle.safety.proofs.Sound.OnePage.{write-sound, granted, owned-valid}
 use Rattle.safety.proofs.Sound.Withdraw.{withdraw-sound}
-use Rattle.safety.proofs.Kept.Untouched.{Untouched, untouched-here, untouched-twice, write-elsewhere}
+use Rattle.safety.proofs.Elsewhere.{Untouched, untouched-here, untouched-twice, write-elsewhere}
 use Rattle.safety.proofs.Pool.BackCall.{list-page, list-offset, ended, calling-inside, withdraw-done}
 
 -- a page that the startup's VMPL may use as its own: plain, valid and permitted
@@ -133,25 +133,17 @@ module _ (m : Lent) where
   unfolding ended set-flag clear-pending write with-memory
   ended-sheet = withdrawn-sheet (startup m .vmpl) rcx m
 
-  changes : (p : ℕ) (m′ : Lent) → give-back (startup m .vmpl) p m′ .table ≡ change (λ b. grant (startup m .vmpl) (own 0 b)) p m′ .table
-  unfolding give-back
-  changes p m′ = refl
-
-  byte-of : (p : ℕ) → table-byte (ended m) p ≡ table-byte given p
-  unfolding table-byte
-  byte-of p = rw ended-table
+  byte-of : (p : ℕ) → table-byte (ended m) p ≡ table-byte (withdrawn (startup m .vmpl) rcx m) p
+  unfolding ended set-flag clear-pending write with-memory table-byte
+  byte-of p = refl
 
   -- a page that is not given back keeps its table byte
   ended-other : (p : ℕ) → exists (eqb p) ps ≡ false → table-byte (ended m) p ≡ table-byte m p
-  ended-other p e =
-      byte-of p ∙ table-byte-each-other (λ b. grant (startup m .vmpl) (own 0 b)) (give-back (startup m .vmpl)) changes ps m p e
+  ended-other p e = byte-of p ∙ not-given-byte (startup m .vmpl) rcx p m e
 
   -- one that is given back is plain and granted
-  ended-given : (p : ℕ) → exists (eqb p) ps ≡ true → p < N m → table-byte (ended m) p ≡ grant (startup m .vmpl) (own 0 (table-byte m p))
-  unfolding N
-  ended-given p e h =
-      byte-of p
-      ∙ table-byte-each (λ b. grant (startup m .vmpl) (own 0 b)) (give-back (startup m .vmpl)) changes (withdrawn-rising rcx m) m p e h
+  ended-given : (p : ℕ) → exists (eqb p) ps ≡ true → table-byte (ended m) p ≡ grant (startup m .vmpl) (own 0 (table-byte m p))
+  ended-given p e = byte-of p ∙ given-byte (startup m .vmpl) rcx p m e
 
   -- a page that is not free keeps its table byte
   pub ended-kept : (p o : ℕ) → owner (table-byte m p) ≡ o → eqb o 3 ≡ false → table-byte (ended m) p ≡ table-byte m p
@@ -173,7 +165,7 @@ module _ (m : Lent) where
   fewer-free =
       let f : ℕ → ℕ = λ b. grant (startup m .vmpl) (own 0 b) in
       rw ended-table
-      (count-each-down f (give-back (startup m .vmpl)) changes is-free (withdrawn-rising rcx m) m (omega arith) (withdrawn-free rcx m)
+      (count-each-down f (give-back (startup m .vmpl)) (give-back-table (startup m .vmpl)) is-free (withdrawn-rising rcx m) m (omega arith) (withdrawn-free rcx m)
       (rising→absent (λ p. is-free (f (table-byte m p))) (withdrawn-rising rcx m) (λ p l h. not-free (startup m .vmpl) (table-byte m p))))
 
   -- 510 fewer, or none is left
@@ -182,9 +174,8 @@ module _ (m : Lent) where
 
   -- ---- the memory
 
-  given-memory : given .memory ≡ m .memory
-  unfolding give-back change put
-  given-memory = each-same (λ m. m .memory) (give-back (startup m .vmpl)) (λ p m. refl) ps m
+  same-memory : given .memory ≡ m .memory
+  same-memory = given-memory (startup m .vmpl) ps m
 
   -- the writes, all in the calling page
   abbrev counted : Lent
@@ -212,7 +203,7 @@ module _ (m : Lent) where
 
   given-page : (p : ℕ) → page-at given p ≡ page-at m p
   unfolding page-at
-  given-page p = rw given-memory
+  given-page p = rw same-memory
 
   -- every other page keeps its bytes
   pub ended-elsewhere : (p : ℕ) → eqb p k ≡ false → page-at (ended m) p ≡ page-at m p
@@ -226,7 +217,7 @@ module _ (m : Lent) where
         ≡ sets (sets (sets (sets (page-at m k) 8 (little 2 (length ps))) 16 (gpas ps)) 0 (0 ∷ [])) 1
         (cond (any-free (write k 0 (0 ∷ []) listed)) 1 0 ∷ [])
     last-page =
-        let a : k < length (given .memory) = rw given-memory inside in
+        let a : k < length (given .memory) = rw same-memory inside in
         let b : k < length (counted .memory) = rw memory-written a in
         let c : k < length (listed .memory) = rw memory-written b in
         let d : k < length (write k 0 (0 ∷ []) listed .memory) = rw memory-written c in
@@ -255,7 +246,7 @@ module _ (m : Lent) where
         by-test (exists (eqb p) ps)
         (λ t.
         let inside = pool-inside m p e in
-        inr (rw (ended-given p t inside) (given-open (startup m .vmpl) (table-byte m p) (startup-range m s) (owned-valid _ _ _ (s .pages p inside) (λ z. omega arith)))))
+        inr (rw (ended-given p t) (given-open (startup m .vmpl) (table-byte m p) (startup-range m s) (owned-valid _ _ _ (s .pages p inside) (λ z. omega arith)))))
         (λ t. inl (rw (ended-other p t) e))
 
     -- the call, as a part of a round

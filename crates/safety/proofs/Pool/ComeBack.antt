@@ -23,7 +23,7 @@ use Rattle.safety.specs.Statements.{All-come-back}
 use Rattle.safety.proofs.Effects.{same-startup}
 use Rattle.safety.proofs.Sound.Facts.{Sound, open-sound}
 use Rattle.safety.proofs.Sound.Rows.{startup-lives}
-use Rattle.safety.proofs.Kept.Untouched.{kept-page}
+use Rattle.safety.proofs.Elsewhere.{kept-page}
 use Rattle.safety.proofs.Kept.Fates.{Owned}
 use Rattle.safety.proofs.Pool.BackCall.{asks-withdraw, ended, stored, called-done}
 use Rattle.safety.proofs.Pool.BackRound.{Turning, Round, round-twice, round-here, ended-round, stored-round, count-told, store-waits}

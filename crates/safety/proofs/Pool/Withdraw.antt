@@ -11,18 +11,18 @@ use lib.ListN.{length, getD, length-take}
 use lib.Seq.{sets, length-sets}
 use borrow.Author.Tests.{eqb-true, eq-eqb}
 use Rattle.rules.specs.Words.{page-size, most-pages, little, number, range, exists, places, each}
-use Rattle.rules.specs.Machine.{Lent, N, page-of, offset-of, page-at, write, plain, table-byte, change, own, grant}
+use Rattle.rules.specs.Machine.{Lent, N, page-of, offset-of, page-at, write, plain, table-byte, own, grant}
 use Rattle.rules.specs.Lists.{in-list, list-count, list-entry}
 use Rattle.rules.specs.Calls.{is-free, withdrawn-pages, give-back, gpas, withdrawn}
 use Rattle.rules.specs.Runs.{in-pool, pool}
 use Rattle.laws.proofs.Ranges.{length-range, getD-range, exists→, →exists, →absent, rising→within}
 use Rattle.laws.proofs.Numbers.{length-little, number-written, number-elsewhere}
 use Rattle.laws.proofs.Widths.{sets-append}
-use Rattle.laws.proofs.Counts.{count-each-down, memory-each}
+use Rattle.laws.proofs.Counts.{count-each-down}
 use Rattle.laws.proofs.TableByte.{owner-own, owner-grant}
 use Rattle.safety.specs.Terms.{tells-page}
 use Rattle.safety.proofs.Small.{every-weaker}
-use Rattle.safety.proofs.Effects.{memory-written, page-written}
+use Rattle.safety.proofs.Effects.{give-back-table, given-memory, memory-written, page-written}
 use Rattle.safety.proofs.Checks.{free-owner, withdrawn-rising, withdrawn-free}
 use Rattle.safety.proofs.Pool.Counts.{pooled, in-pool-owner, pool-counts, pool-write}
 use Rattle.safety.proofs.Pool.Bytes.{in-list-write, in-list-written, offset-below}
@@ -72,12 +72,12 @@ given-out vmpl b = in-pool-owner _ 0 (owner-grant vmpl (own plain b) ∙ owner-o
 module _ (vmpl rcx : ℕ) (m : Lent) where
   -- pages given back leave the pool
   given-pool : pool (each (give-back vmpl) (withdrawn-pages rcx m) m) + length (withdrawn-pages rcx m) ≡ pool m
-  unfolding give-back change N
+  unfolding N
   given-pool =
       let f : ℕ → ℕ = λ b. grant vmpl (own plain b) in
       let ps = withdrawn-pages rcx m in
       rw (pool-counts m, pool-counts (each (give-back vmpl) ps m))
-      (count-each-down f (give-back vmpl) (λ p m. refl) in-pool (withdrawn-rising rcx m) m (omega arith)
+      (count-each-down f (give-back vmpl) (give-back-table vmpl) in-pool (withdrawn-rising rcx m) m (omega arith)
       (every-weaker (λ p. is-free (table-byte m p)) (λ p. in-pool (table-byte m p)) ps (λ p. free-in-pool (table-byte m p)) (withdrawn-free rcx m))
       (→absent (λ p. in-pool (f (table-byte m p))) ps 0 (λ i h. given-out vmpl (table-byte m (getD ps i 0)))))
 
@@ -86,13 +86,9 @@ module _ (vmpl rcx : ℕ) (m : Lent) where
   unfolding withdrawn
   withdrawn-pool = rw (pool-write, pool-write) given-pool
 
-  given-memory : each (give-back vmpl) (withdrawn-pages rcx m) m .memory ≡ m .memory
-  unfolding give-back
-  given-memory = memory-each _ (withdrawn-pages rcx m) m
-
   page-given : page-at (each (give-back vmpl) (withdrawn-pages rcx m) m) (page-of rcx) ≡ page-at m (page-of rcx)
   unfolding page-at
-  page-given = ap (λ pages. getD pages (page-of rcx) []) given-memory
+  page-given = ap (λ pages. getD pages (page-of rcx) []) (given-memory vmpl (withdrawn-pages rcx m) m)
 
   -- no more pages than two bytes can count
   withdrawn-few : length (withdrawn-pages rcx m) < 256 ^ 2
@@ -114,7 +110,7 @@ module _ (vmpl rcx : ℕ) (m : Lent) where
       let given = each (give-back vmpl) ps m in
       let counted = write p (offset-of rcx) (little 2 (length ps)) given in
       in-list-write p (offset-of rcx + 8) (gpas ps) counted 2 0 rcx (λ e. inl (omega arith))
-      ∙ in-list-written 2 0 (offset-of rcx) (length ps) rcx given (omega arith) (rw given-memory h) (rw page-given k) withdrawn-few
+      ∙ in-list-written 2 0 (offset-of rcx) (length ps) rcx given (omega arith) (rw (given-memory vmpl ps m) h) (rw page-given k) withdrawn-few
 
   -- and so is the gPA of each page that is given back
   withdrawn-gpa : page-of rcx < length (m .memory) → length (page-at m (page-of rcx)) ≡ page-size → offset-of rcx % 8 ≡ 0
@@ -128,7 +124,7 @@ module _ (vmpl rcx : ℕ) (m : Lent) where
       let given = each (give-back vmpl) ps m in
       let counted = write p at (little 2 (length ps)) given in
       let there : at + (8 + 8 * k) ≡ at + 8 + 8 * k = omega arith in
-      let first : p < length (given .memory) = rw given-memory h in
+      let first : p < length (given .memory) = rw (given-memory vmpl ps m) h in
       let second : p < length (counted .memory) = rw (memory-written p at (little 2 (length ps)) given) first in
       let wide : length (page-at counted p) ≡ page-size
       = rw (page-written p at (little 2 (length ps)) given first, length-sets (page-at given p) at (little 2 (length ps)), page-given) long in

@@ -10,7 +10,7 @@ use Rattle.rules.specs.declared.ListCall.{ListCall}
 use Rattle.rules.specs.declared.Wish.{Wish}
 use Rattle.rules.specs.declared.Wish.the-variants.{Invalid, Valid, Pool}
 use Rattle.rules.specs.Words.{records, between, little, range, each}
-use Rattle.rules.specs.Machine.{Lent, N, page-of, offset-of, with-memory, write, fill, owner, valid, grant, revoke, make-valid, make-invalid, table-byte}
+use Rattle.rules.specs.Machine.{Lent, N, page-of, offset-of, with-memory, write, fill, owner, valid, revoke, make-valid, make-invalid, table-byte}
 use Rattle.rules.specs.Machine.{is-live, record-at, vcpu, startup}
 use Rattle.rules.specs.Sound.{claims, agrees}
 use Rattle.rules.specs.Lists.{store-index, wished, cleared, carry-out, carry-out-all, list-call}
