@@ -12,7 +12,7 @@ use borrow.Author.Tests.{eqb-true, eqb-false, ne-eqb, ltb-true, ltb-false}
 use Rattle.rules.specs.declared.Wish.{Wish}
 use Rattle.rules.specs.declared.Wish.the-variants.{Invalid, Valid, Pool}
 use Rattle.rules.specs.Words.{record-size, bits, little, range, each}
-use Rattle.rules.specs.Machine.{Lent, N, page-at, with-memory, written, write, zeros, fill, owner, grant, revoke, own, table-byte, put, change}
+use Rattle.rules.specs.Machine.{Lent, N, page-at, with-memory, written, write, zeros, fill, owner, grant, revoke, own, table-byte, change}
 use Rattle.rules.specs.Machine.{holds, needs-page, record-at, vcpu, startup, amend}
 use Rattle.rules.specs.Lists.{wished, cleared, carry-out, carry-out-all}
 use Rattle.rules.specs.Calls.{remapped, Asked, free-page, new-record, created, clear-svme, deleted, give-back, withdrawn-pages, withdrawn}
@@ -21,6 +21,7 @@ use Rattle.laws.proofs.Numbers.{getD-sets-elsewhere}
 use Rattle.laws.proofs.Counts.{memory-each, sheet-each}
 use Rattle.safety.proofs.Small.{implied}
 use Rattle.safety.proofs.Branches.{on-test}
+use Rattle.safety.proofs.Change.{Puts, put-puts, change-puts, change-other, change-N, change-memory, change-sheet, change-byte, change-alike}
 
 -- ---- a table byte
 
@@ -30,45 +31,6 @@ unfolding N table-byte owner bits
 owned-below m p o e h =
     by-test (ltb p (length (m .table))) (ltb-true p (length (m .table)))
     (λ t. absurd (omega (arith, rw (List·getD-eq-default (m .table) 0 (ltb-false p (length (m .table)) t)) at e)))
-
-module _ (m : Lent) (p b : ℕ) where
-  -- the byte that was put
-  pub put-same : p < N m → table-byte (put p b m) p ≡ b
-  unfolding put table-byte N
-  put-same h = getD-set-same (m .table) p b 0 h
-
-  -- each other is as it was
-  pub put-other : (q : ℕ) → (q ≡ p → ⊥) → table-byte (put p b m) q ≡ table-byte m q
-  unfolding put table-byte
-  put-other q h = getD-set-other (m .table) p q b 0 h
-
-  -- as many pages as before
-  pub put-N : N (put p b m) ≡ N m
-  unfolding put N
-  put-N = length-set (m .table) p b
-
-module _ (f : ℕ → ℕ) (q : ℕ) (m : Lent) where
-  -- the byte that was changed
-  pub change-same : q < N m → table-byte (change f q m) q ≡ f (table-byte m q)
-  unfolding change
-  change-same h = put-same m q (f (table-byte m q)) h
-
-  -- each other is as it was
-  pub change-other : (p : ℕ) → (p ≡ q → ⊥) → table-byte (change f q m) p ≡ table-byte m p
-  unfolding change
-  change-other p h = put-other m q (f (table-byte m q)) p h
-
-  -- as many pages as before
-  pub change-N : N (change f q m) ≡ N m
-  unfolding change
-  change-N = put-N m q (f (table-byte m q))
-
-  -- any byte below N after the change
-  pub change-byte : (p : ℕ) → p < N m → table-byte (change f q m) p ≡ cond (eqb q p) (f (table-byte m p)) (table-byte m p)
-  change-byte p h =
-      by-test (eqb q p)
-      (λ t. let e : q ≡ p = eqb-true q p t in rw (t, ← e) (change-same (rw e h)))
-      (λ t. rw t (change-other p (λ e. eqb-false q p t (sym e))))
 
 -- ---- three table bytes: VMSA a, calling page b and, if t, pool page c, as Create and Delete change them
 
@@ -80,12 +42,23 @@ module _ (f g k : ℕ → ℕ) (a b c : ℕ) (t : Bool) (m : Lent) where
   abbrev pub three-changed : Lent
   three-changed = cond t (change k c two-changed) two-changed
 
-  two-N : N two-changed ≡ N m
-  two-N = change-N g b (change f a m) ∙ change-N f a m
+  -- what no change touches is as it was
+  three-kept : {A : Type 0} (part : Lent → A) → ((f : ℕ → ℕ) (p : ℕ) (now : Lent) → part (change f p now) ≡ part now) → part three-changed ≡ part m
+  three-kept part kept =
+      let two = kept g b (change f a m) ∙ kept f a m in
+      on-test (λ now. part now ≡ part m) t _ _ (λ e. kept k c two-changed ∙ two) (λ e. two)
 
   -- as many pages as before
   pub three-N : N three-changed ≡ N m
-  three-N = on-test (λ now. N now ≡ N m) t _ _ (λ e. change-N k c two-changed ∙ two-N) (λ e. two-N)
+  three-N = three-kept N change-N
+
+  -- the same memory
+  three-memory : three-changed .memory ≡ m .memory
+  three-memory = three-kept (λ now. now .memory) change-memory
+
+  -- the same sheet
+  three-sheet : three-changed .sheet ≡ m .sheet
+  three-sheet = three-kept (λ now. now .sheet) change-sheet
 
   -- what holds of each new byte, and of each old one elsewhere, holds of all
   pub three-bytes : (P : ℕ → ℕ → Type 0) → (a ≡ b → ⊥) → (t ≡ true → (a ≡ c → ⊥) × (b ≡ c → ⊥))
@@ -97,7 +70,7 @@ module _ (f g k : ℕ → ℕ) (a b c : ℕ) (t : Bool) (m : Lent) where
       let byte-2 = change-byte g b (change f a m) p (rw (change-N f a m) h) in
       let byte-3 : table-byte three-changed p ≡ cond (t && eqb c p) (k (table-byte two-changed p)) (table-byte two-changed p)
       = on-test (λ now. table-byte now p ≡ cond (t && eqb c p) (k (table-byte two-changed p)) (table-byte two-changed p)) t _ _
-      (λ e. rw e (change-byte k c two-changed p (rw two-N h))) (λ e. rw e) in
+      (λ e. rw e (change-byte k c two-changed p (rw (change-N g b (change f a m) ∙ change-N f a m) h))) (λ e. rw e) in
       by-test (eqb a p)
       (λ u.
       let here = eqb-true a p u in
@@ -114,6 +87,13 @@ module _ (f g k : ℕ → ℕ) (a b c : ℕ) (t : Bool) (m : Lent) where
       let both = and-eq-true-iff t (eqb c p) .0 w in
       rw (byte-3, byte-2, byte-1, w, u, v, ← eqb-true c p (both .1)) (at-c (both .0)))
       (λ w. rw (byte-3, byte-2, byte-1, w, u, v) (elsewhere p h u v w))))
+
+-- machines of one table have one after them
+three-alike : (f g k : ℕ → ℕ) (a b c : ℕ) (t : Bool) (m m′ : Lent) → m .table ≡ m′ .table
+    → three-changed f g k a b c t m .table ≡ three-changed f g k a b c t m′ .table
+three-alike f g k a b c t m m′ e =
+    let two = change-alike g b (change f a m) (change f a m′) (change-alike f a m m′ e) in
+    by-test t (λ u. rw u (change-alike k c _ _ two)) (λ u. rw u two)
 
 -- ---- a page written
 
@@ -160,25 +140,32 @@ same-startup m m′ e = rw e
 
 -- ---- a page of an entry
 
--- its table byte is put, and no other
-pub carry-out-table : (wish : Wish) (vmpl p : ℕ) (m : Lent) → carry-out wish vmpl p m .table ≡ put p (wished wish vmpl (table-byte m p)) m .table
-unfolding carry-out cleared put fill with-memory
-carry-out-table Invalid vmpl p m = refl
-carry-out-table Valid vmpl p m = refl
-carry-out-table Pool vmpl p m = refl
+-- its memory is cleared, and then its table byte is put
+pub carried-puts : (wish : Wish) (vmpl p : ℕ) (m : Lent) → Puts p (wished wish vmpl (table-byte m p)) (cleared wish p m) (carry-out wish vmpl p m)
+unfolding carry-out
+carried-puts wish vmpl p m = put-puts p (wished wish vmpl (table-byte m p)) (cleared wish p m)
 
--- each other is as it was
-pub carry-out-other : (wish : Wish) (vmpl p : ℕ) (m : Lent) (q : ℕ) → (q ≡ p → ⊥) → table-byte (carry-out wish vmpl p m) q ≡ table-byte m q
-unfolding table-byte
-carry-out-other wish vmpl p m q h =
-    ap (λ t. getD t q 0) (carry-out-table wish vmpl p m) ∙ put-other m p (wished wish vmpl (table-byte m p)) q h
+cleared-kept : (wish : Wish) (p : ℕ) (m : Lent) → (cleared wish p m .table ≡ m .table) × (cleared wish p m .sheet ≡ m .sheet)
+unfolding cleared fill with-memory
+cleared-kept Invalid p m = (refl, refl)
+cleared-kept Valid p m = (refl, refl)
+cleared-kept Pool p m = (refl, refl)
 
--- so is the sheet
-pub carry-out-sheet : (wish : Wish) (vmpl p : ℕ) (m : Lent) → carry-out wish vmpl p m .sheet ≡ m .sheet
-unfolding carry-out cleared put fill with-memory
-carry-out-sheet Invalid vmpl p m = refl
-carry-out-sheet Valid vmpl p m = refl
-carry-out-sheet Pool vmpl p m = refl
+module _ (wish : Wish) (vmpl p : ℕ) (m : Lent) where
+  -- the table, as a change of one byte
+  pub carry-out-table : carry-out wish vmpl p m .table ≡ change (wished wish vmpl) p m .table
+  carry-out-table =
+      carried-puts wish vmpl p m .table ∙ ap (λ table. set table p (wished wish vmpl (table-byte m p))) (cleared-kept wish p m .0)
+      ∙ sym (change-puts (wished wish vmpl) p m .table)
+
+  -- each other table byte is as it was
+  pub carry-out-other : (q : ℕ) → (q ≡ p → ⊥) → table-byte (carry-out wish vmpl p m) q ≡ table-byte m q
+  unfolding table-byte
+  carry-out-other q h = ap (λ table. getD table q 0) carry-out-table ∙ change-other (wished wish vmpl) p m q h
+
+  -- so is the sheet
+  pub carry-out-sheet : carry-out wish vmpl p m .sheet ≡ m .sheet
+  carry-out-sheet = carried-puts wish vmpl p m .sheet ∙ cleared-kept wish p m .1
 
 -- after all pages of the entry too
 pub entry-sheet : (wish : Wish) (vmpl first n : ℕ) (m : Lent) → carry-out-all wish vmpl first n m .sheet ≡ m .sheet
@@ -195,8 +182,8 @@ module _ (vmpl p : ℕ) (m : Lent) where
 
   -- so is the sheet
   pub give-back-sheet : give-back vmpl p m .sheet ≡ m .sheet
-  unfolding give-back change put
-  give-back-sheet = refl
+  unfolding give-back
+  give-back-sheet = change-sheet (λ b. grant vmpl (own 0 b)) p m
 
   -- the table, as a change of one byte
   pub give-back-table : give-back vmpl p m .table ≡ change (λ b. grant vmpl (own 0 b)) p m .table
@@ -213,41 +200,43 @@ given-memory vmpl ps m = memory-each _ ps m
 -- Remap: the sheet
 pub remapped-sheet : (caller old new : ℕ) (m : Lent)
     → remapped caller old new m .sheet ≡ set (m .sheet) caller (sets (record-at m caller) 12 (little 4 new))
-unfolding remapped change put amend write with-memory record-at
-remapped-sheet caller old new m = by-test (eqb old new) (λ t. rw t) (λ t. rw t)
+unfolding remapped amend write with-memory record-at
+remapped-sheet caller old new m =
+    let first = on-test (λ now. now .sheet ≡ m .sheet) (eqb old new) m (change (own 0) old m) (λ t. refl) (λ t. change-sheet (own 0) old m) in
+    ap (λ rows. set rows caller (sets (getD rows caller []) 12 (little 4 new))) (change-sheet (own 1) new _ ∙ first)
 
 -- Create: the sheet
 pub created-sheet : (a : Asked) (i : ℕ) (m : Lent) → created a i m .sheet ≡ set (m .sheet) i (new-record a i m)
-unfolding created change put amend
-created-sheet a i m = by-test (needs-page i) (λ t. rw t) (λ t. rw t)
+unfolding created amend
+created-sheet a i m = ap (λ rows. set rows i (new-record a i m)) (three-sheet _ _ _ _ _ _ (needs-page i) m)
 
 -- the table
 pub created-table : (a : Asked) (i : ℕ) (m : Lent)
     → created a i m .table ≡ three-changed (λ b. own 5 (revoke b)) (own 1) (own 4) (a .vmsa) (a .calling) (free-page m) (needs-page i) m .table
-unfolding created change put amend table-byte
-created-table a i m = by-test (needs-page i) (λ t. rw t) (λ t. rw t)
+unfolding created amend
+created-table a i m = refl
 
 -- memory
 pub created-memory : (a : Asked) (i : ℕ) (m : Lent) → created a i m .memory ≡ m .memory
-unfolding created change put amend
-created-memory a i m = by-test (needs-page i) (λ t. rw t) (λ t. rw t)
+unfolding created amend
+created-memory a i m = three-memory _ _ _ _ _ _ (needs-page i) m
 
 -- Delete: the sheet
 pub deleted-sheet : (vmpl i : ℕ) (m : Lent) → deleted vmpl i m .sheet ≡ set (m .sheet) i (zeros record-size)
-unfolding deleted clear-svme change put amend write with-memory
-deleted-sheet vmpl i m = by-test (holds (record-at m i)) (λ t. rw t) (λ t. rw t)
+unfolding deleted clear-svme amend write with-memory
+deleted-sheet vmpl i m = ap (λ rows. set rows i (zeros record-size)) (three-sheet _ _ _ _ _ _ (holds (record-at m i)) _)
 
 -- the table
 pub deleted-table : (vmpl i : ℕ) (m : Lent)
     → deleted vmpl i m .table
     ≡ three-changed (λ b. grant vmpl (own 0 b)) (own 0) (own 3) (vcpu m i .vmsa) (vcpu m i .calling) (vcpu m i .pool) (holds (record-at m i)) m .table
-unfolding deleted clear-svme write with-memory change put amend table-byte
-deleted-table vmpl i m = by-test (holds (record-at m i)) (λ t. rw t) (λ t. rw t)
+unfolding deleted clear-svme amend write with-memory
+deleted-table vmpl i m = three-alike _ _ _ _ _ _ (holds (record-at m i)) _ m refl
 
 -- memory
 pub deleted-memory : (vmpl i : ℕ) (m : Lent) → deleted vmpl i m .memory ≡ clear-svme (vcpu m i .vmsa) m .memory
-unfolding deleted change put amend
-deleted-memory vmpl i m = by-test (holds (record-at m i)) (λ t. rw t) (λ t. rw t)
+unfolding deleted amend
+deleted-memory vmpl i m = three-memory _ _ _ _ _ _ (holds (record-at m i)) _
 
 -- Withdraw: the sheet
 pub withdrawn-sheet : (vmpl rcx : ℕ) (m : Lent) → withdrawn vmpl rcx m .sheet ≡ m .sheet

@@ -9,11 +9,12 @@ use borrow.Author.Tests.{eqb-false}
 use Rattle.rules.specs.Words.{exists, each}
 use Rattle.rules.specs.declared.Wish.{Wish}
 use Rattle.rules.specs.declared.Wish.the-variants.{Invalid, Valid, Pool}
-use Rattle.rules.specs.Machine.{Lent, with-memory, write, fill, table-byte, put, change, page-at, amend}
+use Rattle.rules.specs.Machine.{Lent, with-memory, write, fill, table-byte, change, page-at, amend}
 use Rattle.rules.specs.Lists.{cleared, carry-out}
 use Rattle.laws.proofs.Ranges.{or-false}
 use Rattle.safety.specs.Terms.{Kept-page}
-use Rattle.safety.proofs.Effects.{change-other, page-not-written, carry-out-other}
+use Rattle.safety.proofs.Change.{change-puts, puts-page, change-other}
+use Rattle.safety.proofs.Effects.{page-not-written, carry-out-other, carried-puts}
 
 -- page p has the bytes and the table byte that it had
 pub record Untouched (p : ℕ) (m after : Lent) : Type 0 where
@@ -41,8 +42,7 @@ write-elsewhere p q o bytes m e = record { page = page-not-written q o bytes m p
 
 -- a change of another table byte
 pub change-elsewhere : (f : ℕ → ℕ) (p q : ℕ) (m : Lent) → eqb p q ≡ false → Untouched p m (change f q m)
-unfolding change put page-at
-change-elsewhere f p q m e = record { page = refl; byte = change-other f q m p (eqb-false p q e) }
+change-elsewhere f p q m e = record { page = puts-page (change-puts f q m) p; byte = change-other f q m p (eqb-false p q e) }
 
 -- a record amended
 pub amend-leaves : (f : List ℕ → List ℕ) (i p : ℕ) (m : Lent) → Untouched p m (amend f i m)
@@ -57,8 +57,8 @@ cleared-elsewhere Pool p q m e = refl
 
 -- an entry carried out on another page
 pub carry-elsewhere : (wish : Wish) (vmpl p q : ℕ) (m : Lent) → eqb p q ≡ false → Untouched p m (carry-out wish vmpl q m)
-unfolding carry-out put page-at
-carry-elsewhere wish vmpl p q m e = record { page = cleared-elsewhere wish p q m e; byte = carry-out-other wish vmpl q m p (eqb-false p q e) }
+carry-elsewhere wish vmpl p q m e =
+    record { page = puts-page (carried-puts wish vmpl q m) p ∙ cleared-elsewhere wish p q m e; byte = carry-out-other wish vmpl q m p (eqb-false p q e) }
 
 -- an effect on each of some other pages
 pub each-elsewhere : (effect : ℕ → Lent → Lent) (p : ℕ) → ((q : ℕ) (m : Lent) → eqb p q ≡ false → Untouched p m (effect q m))

@@ -18,7 +18,7 @@ use Rattle.rules.specs.declared.ListCall.{ListCall}
 use Rattle.rules.specs.declared.Wish.{Wish}
 use Rattle.rules.specs.Answers.{Answered, code-number}
 use Rattle.rules.specs.Words.{page-size, record-size, entries-a-call, multiple, little, range}
-use Rattle.rules.specs.Machine.{Lent, Machine, with-lent, page-of, with-memory, write, zeros, grant, revoke, own, put, change}
+use Rattle.rules.specs.Machine.{Lent, Machine, with-lent, page-of, with-memory, write, zeros, grant, revoke, own, change}
 use Rattle.rules.specs.Machine.{fields, laid-out, is-live, holds, needs-page, record-at, vcpu, amend}
 use Rattle.rules.specs.Lists.{store-index, wished, carry-out, carry-out-all, list-call}
 use Rattle.rules.specs.Calls.{remapped, Asked, asked, free-page, new-record, created, deleted, named-by, delete, give-back, withdrawn, withdrawn-pages}
@@ -30,6 +30,7 @@ use Rattle.laws.proofs.Records.{is-live-zeros}
 use Rattle.safety.specs.Terms.{Confined}
 use Rattle.safety.specs.Statements.{On-machines, Confinement-law}
 use Rattle.safety.proofs.Branches.{on-test, on-refuse, past, on-handle}
+use Rattle.safety.proofs.Change.{change-sheet}
 use Rattle.safety.proofs.Effects.{three-changed, carry-out-table, carry-out-sheet, entry-sheet, remapped-sheet, created-table, created-sheet}
 use Rattle.safety.proofs.Effects.{deleted-table, deleted-sheet}
 use Rattle.safety.proofs.Entries.{Keeps, within-keeps}
@@ -41,10 +42,9 @@ use Rattle.safety.proofs.Always.Modest.{given-modest, both-modest, wish
 -- ---- Pvalidate and Deposit
 
 carry-out-bounded : (wish : Wish) (c p : ℕ) (m : Lent) → Bounded c m (carry-out wish c p m)
-unfolding change put
 carry-out-bounded wish c p m =
     bounded-twice (change-bounded c (wished wish c) p m (wished-modest wish c))
-    (same-bounded c (change (wished wish c) p m) _ (carry-out-table wish c p m) (carry-out-sheet wish c p m))
+    (same-bounded c (change (wished wish c) p m) _ (carry-out-table wish c p m) (carry-out-sheet wish c p m ∙ sym (change-sheet (wished wish c) p m)))
 
 -- so far bounded, and the sheet as it was: the caller's VMPL is the same
 record Going (caller : ℕ) (m now : Lent) : Type 0 where
@@ -94,7 +94,7 @@ renamed-bounded caller new m =
     (λ live. omega arith)
 
 remapped-bounded : (caller old new : ℕ) (m : Lent) → Bounded (vcpu m caller .vmpl) m (remapped caller old new m)
-unfolding remapped amend write with-memory change put
+unfolding remapped amend write with-memory
 remapped-bounded caller old new m =
     let c = vcpu m caller .vmpl in
     let mid : Lent = cond (eqb old new) m (change (own 0) old m) in

@@ -2,7 +2,7 @@
 -- flag. A caller that is told that its call was handled is still there.
 use mathlib.Core.Path.{_≡_, refl, sym, _∙_, ap}
 use mathlib.Core.Logic.{_⊎_, inl, inr}
-use mathlib.Core.Bool.{true, false, cond}
+use mathlib.Core.Bool.{Bool, true, false, cond}
 use mathlib.Core.List.{List, [], _∷_}
 use Prim.Native.Nat.{ℕ, _<_}
 use native.Mathlib.Omega.{arith}
@@ -17,8 +17,8 @@ use Rattle.rules.specs.declared.ListCall.{ListCall}
 use Rattle.rules.specs.declared.ListCall.the-variants.{Pvalidate, Deposit}
 use Rattle.rules.specs.Answers.{Answered, outcome-number}
 use Rattle.rules.specs.Words.{record-size, entries-a-call}
-use Rattle.rules.specs.Machine.{Lent, Machine, with-lent, page-of, page-at, with-memory, written, write, zeros, put, change, table-byte, is-live, holds, record-at, vcpu}
-use Rattle.rules.specs.Machine.{startup, amend, efer}
+use Rattle.rules.specs.Machine.{Lent, Machine, with-lent, page-of, page-at, with-memory, written, write, zeros, grant, own, change, table-byte}
+use Rattle.rules.specs.Machine.{is-live, holds, record-at, vcpu, startup, efer}
 use Rattle.rules.specs.Lists.{list-call}
 use Rattle.rules.specs.Calls.{remap, free-record, new-record, create, Asked, asked, clear-svme, deleted, named-by, delete, withdraw, any-free}
 use Rattle.rules.specs.Call.{Posed, pending, on-lent, on-rcx, handle, clear-pending, set-flag, finish, call}
@@ -27,7 +27,8 @@ use Rattle.laws.proofs.Ranges.{by-test}
 use Rattle.laws.proofs.Records.{is-live-laid-out, is-live-remapped}
 use Rattle.safety.specs.Terms.{unreal, svme-cleared, changed-byte, left-table, Left-by-gone}
 use Rattle.safety.specs.Statements.{On-machines, Gone-law}
-use Rattle.safety.proofs.Effects.{written-elsewhere, remapped-sheet, created-sheet, deleted-sheet, deleted-memory, withdrawn-sheet}
+use Rattle.safety.proofs.Change.{change-puts}
+use Rattle.safety.proofs.Effects.{three-changed, written-elsewhere, remapped-sheet, created-sheet, deleted-sheet, deleted-table, deleted-memory, withdrawn-sheet}
 use Rattle.safety.proofs.Entries.{run-within-sheet}
 use Rattle.safety.proofs.Branches.{never, on-handle, called-real, real-call}
 use Rattle.safety.proofs.Checks.{caller-of, past-remap, past-list, past-create, past-delete, past-withdraw}
@@ -128,10 +129,20 @@ module _ (caller : ℕ) (g : Registers) (m : Lent) (live : is-live (getD (m .she
 
 -- ---- what is left
 
+three-left : (f g k : ℕ → ℕ) (a b c : ℕ) (t : Bool) (m : Lent) → three-changed f g k a b c t m .table
+    ≡ (let two : List ℕ = changed-byte g b (changed-byte f a (m .table)) in cond t (changed-byte k c two) two)
+unfolding changed-byte table-byte
+three-left f g k a b c t m =
+    let two = change-puts g b (change f a m) .table ∙ ap (changed-byte g b) (change-puts f a m .table) in
+    by-test t (λ u. rw u (change-puts k c _ .table ∙ ap (changed-byte k c) two)) (λ u. rw u two)
+
 -- the table without the vCPU
-deleted-table : (caller : ℕ) (m : Lent) → deleted (vcpu m caller .vmpl) caller m .table ≡ left-table (vcpu m caller) (m .table)
-unfolding deleted left-table changed-byte change put table-byte amend clear-svme write with-memory holds vcpu
-deleted-table caller m = by-test (eqb (vcpu m caller .holding) 1) (λ t. rw t) (λ t. rw t)
+table-without : (caller : ℕ) (m : Lent) → deleted (vcpu m caller .vmpl) caller m .table ≡ left-table (vcpu m caller) (m .table)
+unfolding left-table holds vcpu
+table-without caller m =
+    let v = vcpu m caller in
+    deleted-table (v .vmpl) caller m
+    ∙ three-left (λ b. grant (v .vmpl) (own 0 b)) (own 0) (own 3) (v .vmsa) (v .calling) (v .pool) (holds (record-at m caller)) m
 
 module _ (caller : ℕ) (g : Registers) (m : Lent) (other : caller ≡ 0 → ⊥) where
   abbrev after : Lent
@@ -160,7 +171,7 @@ module _ (caller : ℕ) (g : Registers) (m : Lent) (other : caller ≡ 0 → ⊥
         registers = refl;
         pending-byte = left-pending;
         memory = left-memory;
-        table = deleted-table caller m;
+        table = table-without caller m;
         sheet = deleted-sheet (vcpu m caller .vmpl) caller m;
       }
 

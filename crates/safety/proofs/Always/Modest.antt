@@ -1,6 +1,6 @@
 -- What is bounded, for statement 10: steps in a row, the change of a table byte that gives no permission above c, and the change of a record that is of no VMPL
 -- below c, before it or after. Of every machine.
-use mathlib.Core.Path.{_≡_, refl, sym, _∙_}
+use mathlib.Core.Path.{_≡_, refl, sym, _∙_, ap}
 use mathlib.Core.Logic.{_⊎_, inl, inr}
 use mathlib.Core.Bool.{Bool, true, true≢false, and-false}
 use mathlib.Core.List.{List, [], _∷_}
@@ -13,11 +13,12 @@ use borrow.Author.Tests.{eqb-true, eqb-false, ltb-true, ltb-false, lt-leb}
 use Rattle.rules.specs.declared.Wish.{Wish}
 use Rattle.rules.specs.declared.Wish.the-variants.{Invalid, Valid, Pool}
 use Rattle.rules.specs.Words.{each}
-use Rattle.rules.specs.Machine.{Lent, permitted, grant, revoke, own, make-valid, make-invalid, table-byte, put, change}
+use Rattle.rules.specs.Machine.{Lent, N, permitted, grant, revoke, own, make-valid, make-invalid, table-byte, change}
 use Rattle.rules.specs.Machine.{fields, is-live, record-at, vcpu, amend}
 use Rattle.rules.specs.Lists.{wished}
 use Rattle.laws.proofs.Ranges.{by-test}
 use Rattle.laws.proofs.TableByte.{permitted-grant, permitted-revoke, permitted-own, permitted-make-valid, permitted-make-invalid}
+use Rattle.safety.proofs.Change.{change-same, change-other, change-sheet, change-puts, puts-out}
 use Rattle.safety.proofs.Effects.{three-changed}
 use Rattle.safety.proofs.Branches.{on-test}
 
@@ -108,19 +109,20 @@ wished-modest Pool c = both-modest c revoke (own 3) (revoke-modest c) (own-modes
 -- a table byte after a change is changed, or as it was
 changed : (f : ℕ → ℕ) (q : ℕ) (m : Lent) (p : ℕ)
     → (table-byte (change f q m) p ≡ f (table-byte m p)) ⊎ (table-byte (change f q m) p ≡ table-byte m p)
-unfolding change put table-byte
+unfolding table-byte
 changed f q m p =
     by-test (eqb p q)
-    (λ t. by-test (ltb q (length (m .table)))
-    (λ u. inl (rw (eqb-true p q t) (getD-set-same (m .table) q _ 0 (ltb-true _ _ u))))
-    (λ u. inr (rw (set-out (m .table) q (f (getD (m .table) q 0)) (ltb-false _ _ u)))))
-    (λ t. inr (getD-set-other (m .table) q p _ 0 (eqb-false p q t)))
+    (λ t. by-test (ltb q (N m))
+    (λ u. inl (rw (eqb-true p q t) (change-same f q m (ltb-true _ _ u))))
+    (λ u. inr (ap (λ table. getD table p 0) (puts-out (change-puts f q m) (ltb-false _ _ u)))))
+    (λ t. inr (change-other f q m p (eqb-false p q t)))
 
 -- so a modest change is bounded
 pub change-bounded : (c : ℕ) (f : ℕ → ℕ) (q : ℕ) (m : Lent) → Modest c f → Bounded c m (change f q m)
-unfolding change put record-at
+unfolding record-at
 change-bounded c f q m modest =
-    record { permissions = λ p d l. given p d l (changed f q m p); made = λ i live low. refl; deleted = λ i live low. refl }
+    let sheets = change-sheet f q m in
+    record { permissions = λ p d l. given p d l (changed f q m p); made = λ i live low. rw sheets; deleted = λ i live low. rw sheets }
   where
     given : (p d : ℕ) → c < d → (table-byte (change f q m) p ≡ f (table-byte m p)) ⊎ (table-byte (change f q m) p ≡ table-byte m p)
         → permitted d (table-byte (change f q m) p) ≡ true → permitted d (table-byte m p) ≡ true

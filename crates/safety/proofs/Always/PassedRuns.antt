@@ -15,10 +15,11 @@ use Rattle.rules.specs.declared.Wish.{Wish}
 use Rattle.rules.specs.declared.Wish.the-variants.{Invalid, Valid, Pool}
 use Rattle.rules.specs.Answers.{Answered}
 use Rattle.rules.specs.Words.{little, range}
-use Rattle.rules.specs.Machine.{Lent, page-of, offset-of, page-at, fill, with-memory, put, vcpu}
+use Rattle.rules.specs.Machine.{Lent, page-of, offset-of, page-at, fill, with-memory, vcpu}
 use Rattle.rules.specs.Lists.{list-next, list-entry, store-index, covered, read-entry, cleared, carry-out, carry-out-all, after-entry, run}
 use Rattle.laws.proofs.Ranges.{by-test, each-same}
 use Rattle.safety.specs.Terms.{covers, Uncovered}
+use Rattle.safety.proofs.Effects.{carried-puts}
 use Rattle.safety.proofs.Entries.{entry-read, list-kept, entry-kept}
 use Rattle.safety.proofs.Elsewhere.{Untouched, untouched-twice, untouched-here, write-elsewhere, carry-elsewhere, each-elsewhere}
 use Rattle.safety.proofs.Pool.Bytes.{in-list-written}
@@ -44,10 +45,10 @@ uncovered-left call caller rcx e first n wish m reads p away =
 
 -- memory has as many pages as before
 carried-length : (wish : Wish) (vmpl p : ℕ) (m : Lent) → length (carry-out wish vmpl p m .memory) ≡ length (m .memory)
-unfolding carry-out cleared fill with-memory put
-carried-length Invalid vmpl p m = refl
-carried-length Valid vmpl p m = length-set (m .memory) p _
-carried-length Pool vmpl p m = refl
+unfolding cleared fill with-memory
+carried-length Invalid vmpl p m = ap length (carried-puts Invalid vmpl p m .memory)
+carried-length Valid vmpl p m = ap length (carried-puts Valid vmpl p m .memory) ∙ length-set (m .memory) p _
+carried-length Pool vmpl p m = ap length (carried-puts Pool vmpl p m .memory)
 
 entry-length : (wish : Wish) (vmpl first n : ℕ) (m : Lent) → length (carry-out-all wish vmpl first n m .memory) ≡ length (m .memory)
 unfolding carry-out-all

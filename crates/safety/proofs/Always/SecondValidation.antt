@@ -1,5 +1,5 @@
 -- Statement 9, no second validation: an entry that validates covered no valid page; if it covers one it is refused; and what it validates is zero.
-use mathlib.Core.Path.{_≡_, refl, sym, _∙_}
+use mathlib.Core.Path.{_≡_, sym, _∙_}
 use mathlib.Core.Bool.{Bool, true, cond, _&&_, true≢false, and-eq-true-iff}
 use mathlib.Core.List.{List, [], _∷_}
 use Prim.Native.Nat.{ℕ, _+_}
@@ -10,7 +10,7 @@ use borrow.Author.Tests.{leb-true, ltb-true, ltb-false, le-leb, lt-ltb, eqb-true
 use Rattle.rules.specs.declared.Wish.the-variants.{Valid}
 use Rattle.rules.specs.declared.ListCall.the-variants.{Pvalidate}
 use Rattle.rules.specs.Words.{page-size, large, bits, range, every, exists, each}
-use Rattle.rules.specs.Machine.{Lent, page-at, with-memory, zeros, fill, put, table-byte, valid, vcpu}
+use Rattle.rules.specs.Machine.{Lent, page-at, with-memory, zeros, fill, table-byte, valid, vcpu}
 use Rattle.rules.specs.Lists.{entry-first, entry-pages, covered, malformed, coverable, read-covered, read-entry}
 use Rattle.rules.specs.Lists.{list-entry, reserved-bits, cleared, carry-out, carry-out-all, after-entry, run}
 use Rattle.laws.proofs.Ranges.{by-test, →every-range, exists-range}
@@ -18,6 +18,7 @@ use Rattle.laws.proofs.Numbers.{zeros-at}
 use Rattle.safety.specs.Terms.{covers, covers-valid, second-code}
 use Rattle.safety.specs.Statements.{Validated-once, Second-validation-refused, Validated-pages-zero, Carried-out}
 use Rattle.safety.proofs.Small.{every-not-exists, not-among}
+use Rattle.safety.proofs.Effects.{carried-puts}
 use Rattle.safety.proofs.Entries.{wish-of, unread, covered-read, entry-read}
 
 -- the pages that an entry covers are those of its range
@@ -77,8 +78,8 @@ still p q pages z =
     (λ t k. rw (getD-set-other pages q p (zeros page-size) [] (eqb-false p q t)) (z k))
 
 carried : (vmpl p : ℕ) (m : Lent) → carry-out Valid vmpl p m .memory ≡ set (m .memory) p (zeros page-size)
-unfolding carry-out cleared fill put with-memory
-carried vmpl p m = refl
+unfolding cleared fill with-memory
+carried vmpl p m = carried-puts Valid vmpl p m .memory
 
 all-still : (vmpl p : ℕ) (qs : List ℕ) (m : Lent) → Zero p (m .memory) → Zero p (each (carry-out Valid vmpl) qs m .memory)
 unfolding each

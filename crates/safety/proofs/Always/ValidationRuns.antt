@@ -27,7 +27,8 @@ use Rattle.laws.proofs.TableByte.{byte·simp}
 use Rattle.safety.specs.Terms.{covers, covers-valid, Uncovered, Invalid-by, on-entry, by-entry}
 use Rattle.safety.specs.Statements.{Validated-once}
 use Rattle.safety.proofs.Small.{every-not-exists, among}
-use Rattle.safety.proofs.Effects.{page-written, page-out, put-same, put-N, carry-out-table, carry-out-other}
+use Rattle.safety.proofs.Change.{change-same, change-N}
+use Rattle.safety.proofs.Effects.{page-written, page-out, carry-out-table, carry-out-other}
 use Rattle.safety.proofs.Entries.{wish-of, entry-read, entry-kept}
 use Rattle.safety.proofs.Always.SecondValidation.{covers-listed, validated-once}
 use Rattle.safety.proofs.Always.PassedRuns.{uncovered-more, uncovered-left}
@@ -84,7 +85,7 @@ wished-valid vmpl b = simp byte·simp
 -- a page of the table that is made valid is so
 made-valid : (vmpl p : ℕ) (m : Lent) → p < N m → valid (table-byte (carry-out Valid vmpl p m) p) ≡ true
 unfolding table-byte
-made-valid vmpl p m h = rw (carry-out-table Valid vmpl p m, put-same m p (wished Valid vmpl (table-byte m p)) h) (wished-valid vmpl (table-byte m p))
+made-valid vmpl p m h = rw (carry-out-table Valid vmpl p m, change-same (wished Valid vmpl) p m h) (wished-valid vmpl (table-byte m p))
 
 -- and stays so where others are
 stays-valid : (vmpl p q : ℕ) (m : Lent) → valid (table-byte m p) ≡ true → valid (table-byte (carry-out Valid vmpl q m) p) ≡ true
@@ -100,7 +101,7 @@ all-stay-valid vmpl p (q ∷ qs) m h = all-stay-valid vmpl p qs (carry-out Valid
 
 carried-N : (vmpl q : ℕ) (m : Lent) → N (carry-out Valid vmpl q m) ≡ N m
 unfolding N
-carried-N vmpl q m = ap length (carry-out-table Valid vmpl q m) ∙ put-N m q (wished Valid vmpl (table-byte m q))
+carried-N vmpl q m = ap length (carry-out-table Valid vmpl q m) ∙ change-N (wished Valid vmpl) q m
 
 -- so one of some pages that are made valid is so after all of them
 all-made-valid : (vmpl p : ℕ) (qs : List ℕ) (m : Lent) → p < N m → exists (eqb p) qs ≡ true → valid (table-byte (each (carry-out Valid vmpl) qs m) p) ≡ true

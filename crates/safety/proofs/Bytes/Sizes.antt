@@ -16,10 +16,11 @@ use Rattle.laws.proofs.Numbers.{length-zeros}
 use Rattle.laws.proofs.Records.{length-laid-out}
 use Rattle.safety.specs.Statements.{Sizes-kept}
 use Rattle.safety.proofs.Branches.{on-test, past}
+use Rattle.safety.proofs.Change.{put-puts}
 use Rattle.safety.proofs.Entries.{Keeps, within-keeps}
 use Rattle.safety.proofs.Checks.{past-remap, past-list, past-create, past-delete, past-withdraw}
 use Rattle.safety.proofs.Keeping.{Each-keeps, called-keeps}
-use Rattle.safety.proofs.Sound.Sizes.{Sized, write-sized, fill-sized, put-sized, change-sized, amend-sized, each-sized}
+use Rattle.safety.proofs.Sound.Sizes.{Sized, write-sized, fill-sized, change-sized, amend-sized, each-sized, puts-sized}
 
 module _ (n : ℕ) where
   -- ---- the calls
@@ -62,9 +63,9 @@ module _ (n : ℕ) where
 
   carry-out-sized : (wish : Wish) (vmpl p : ℕ) (m : Lent) → Sized n m → Sized n (carry-out wish vmpl p m)
   unfolding carry-out cleared
-  carry-out-sized Invalid vmpl p m s = put-sized p _ m s
-  carry-out-sized Valid vmpl p m s = put-sized p _ _ (fill-sized p m s)
-  carry-out-sized Pool vmpl p m s = put-sized p _ m s
+  carry-out-sized Invalid vmpl p m s = puts-sized (put-puts p _ m) s
+  carry-out-sized Valid vmpl p m s = puts-sized (put-puts p _ _) (fill-sized p m s)
+  carry-out-sized Pool vmpl p m s = puts-sized (put-puts p _ m) s
 
   list-sized : (call : ListCall) (caller rcx : ℕ) → Keeps call caller rcx (Sized n)
   unfolding store-index carry-out-all

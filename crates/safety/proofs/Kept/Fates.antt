@@ -8,14 +8,15 @@ use lib.Dec.{eqb, ltb}
 use lib.ListN.{length}
 use borrow.Author.Tests.{eqb-true, eqb-false, ltb-true, ne-eqb}
 use Rattle.rules.specs.declared.Code.the-variants.{Success}
-use Rattle.rules.specs.Machine.{Lent, N, owner, grant, own, revoke, table-byte, put, change, page-at, page-of, is-live, holds, needs-page}
+use Rattle.rules.specs.Machine.{Lent, N, owner, grant, own, revoke, table-byte, change, page-of, is-live, holds, needs-page}
 use Rattle.rules.specs.Machine.{record-at, vcpu}
 use Rattle.rules.specs.Calls.{remapped, remap, Asked, free-page, created, create, clear-svme, deleted, delete}
 use Rattle.rules.specs.Runs.{in-pool}
 use Rattle.laws.proofs.Ranges.{by-test}
 use Rattle.laws.proofs.TableByte.{owner-own}
 use Rattle.safety.specs.Terms.{Same-page}
-use Rattle.safety.proofs.Effects.{owned-below, change-same}
+use Rattle.safety.proofs.Change.{change-puts, puts-page, change-same}
+use Rattle.safety.proofs.Effects.{owned-below}
 use Rattle.safety.proofs.Branches.{on-test}
 use Rattle.safety.proofs.Checks.{Remap-fit, past-remap, Create-fit, past-create, past-delete}
 use Rattle.safety.proofs.Pool.Counts.{pooled, in-pool-owner}
@@ -73,10 +74,9 @@ unfolding own
 own-flags o b h = omega (arith, ltb-true o 8 h)
 
 own-same : (o p : ℕ) (m : Lent) → ltb o 8 ≡ true → p < N m → Same-page p m (change (own o) p m)
-unfolding change put page-at
 own-same o p m h inside =
     let e = change-same (own o) p m inside in
-    record { bytes = refl; flags = rw e (own-flags o (table-byte m p) h) }
+    record { bytes = puts-page (change-puts (own o) p m) p; flags = rw e (own-flags o (table-byte m p) h) }
 
 module _ {E : Type 0} {p : ℕ} {m after later : Lent} where
   -- left alone, and then

@@ -5,14 +5,13 @@ use mathlib.Core.List.{List}
 use Prim.Native.Nat.{ℕ, _+_, _<_}
 use native.Mathlib.Omega.{arith}
 use lib.Dec.{ltb, eqb}
-use lib.ListN.{length}
-use lib.Seq.{set-out}
 use borrow.Author.Tests.{ltb-true, ltb-false}
 use Rattle.rules.specs.Words.{count}
-use Rattle.rules.specs.Machine.{Lent, N, owner, pool-free, pool-in-use, table-byte, put, change, write, with-memory, amend}
+use Rattle.rules.specs.Machine.{Lent, N, owner, pool-free, pool-in-use, table-byte, change, write, with-memory, amend}
 use Rattle.rules.specs.Runs.{in-pool, pool}
 use Rattle.laws.proofs.Ranges.{by-test}
 use Rattle.laws.proofs.Counts.{one, count-set}
+use Rattle.safety.proofs.Change.{Puts, change-puts, puts-out}
 
 -- an owner of the pool's pages
 unfoldable pub pooled : ℕ → Bool
@@ -33,11 +32,6 @@ pub pool-table : (m after : Lent) → after .table ≡ m .table → pool after �
 unfolding pool
 pool-table m after e = rw e
 
--- one table byte put: less what it added, plus what the new one adds
-pool-put : (p b : ℕ) (m : Lent) → p < N m → pool (put p b m) + one (in-pool (table-byte m p)) ≡ pool m + one (in-pool b)
-unfolding put table-byte N
-pool-put p b m h = rw (pool-counts m, pool-counts (put p b m)) (count-set in-pool (m .table) p b 0 h)
-
 -- a write to memory leaves the pool
 pub pool-write : (p offset : ℕ) (bytes : List ℕ) (m : Lent) → pool (write p offset bytes m) ≡ pool m
 unfolding write with-memory pool
@@ -48,17 +42,21 @@ pub pool-amend : (f : List ℕ → List ℕ) (i : ℕ) (m : Lent) → pool (amen
 unfolding amend pool
 pool-amend f i m = refl
 
--- a byte put that is of the pool if the one before it was, on a page below N or not
-pub pool-put-same : (p b : ℕ) (m : Lent) → in-pool b ≡ in-pool (table-byte m p) → pool (put p b m) ≡ pool m
-unfolding put N
-pool-put-same p b m e =
-    by-test (ltb p (length (m .table)))
-    (λ t. let h = pool-put p b m (ltb-true p (length (m .table)) t) in omega (arith, rw e at h))
-    (λ t. pool-table m (put p b m) (set-out (m .table) p b (ltb-false p (length (m .table)) t)))
+module _ {p b : ℕ} {m after : Lent} (h : Puts p b m after) where
+  -- one table byte put: less what it added, plus what the new one adds
+  pool-put : p < N m → pool after + one (in-pool (table-byte m p)) ≡ pool m + one (in-pool b)
+  unfolding table-byte N
+  pool-put k = rw (pool-counts m, pool-counts after, h .table) (count-set in-pool (m .table) p b 0 k)
+
+  -- a byte put that is of the pool if the one before it was, on a page below N or not
+  pub pool-puts : in-pool b ≡ in-pool (table-byte m p) → pool after ≡ pool m
+  pool-puts e =
+      by-test (ltb p (N m))
+      (λ t. let k = pool-put (ltb-true p (N m) t) in omega (arith, rw e at k))
+      (λ t. pool-table m after (puts-out h (ltb-false p (N m) t)))
 
 -- a change from an owner to an owner, where both or neither are of the pool
 pub pool-change : (f : ℕ → ℕ) (p o o′ : ℕ) (m : Lent) → owner (table-byte m p) ≡ o → owner (f (table-byte m p)) ≡ o′ → pooled o′ ≡ pooled o
     → pool (change f p m) ≡ pool m
-unfolding change
 pool-change f p o o′ m before after e =
-    pool-put-same p (f (table-byte m p)) m (in-pool-owner _ o′ after ∙ e ∙ sym (in-pool-owner (table-byte m p) o before))
+    pool-puts (change-puts f p m) (in-pool-owner _ o′ after ∙ e ∙ sym (in-pool-owner (table-byte m p) o before))

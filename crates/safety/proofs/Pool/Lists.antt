@@ -13,17 +13,18 @@ use Rattle.rules.specs.declared.Entry.the-variants.{Reads, Unread}
 use Rattle.rules.specs.declared.ListCall.the-variants.{Pvalidate, Deposit}
 use Rattle.rules.specs.declared.Wish.{Wish}
 use Rattle.rules.specs.declared.Wish.the-variants.{Pool}
-use Rattle.rules.specs.Machine.{Lent, N, page-of, offset-of, page-at, write, written, with-memory, owner, plain, table-byte, put, change, revoke, vcpu}
+use Rattle.rules.specs.Machine.{Lent, N, page-of, offset-of, page-at, write, written, with-memory, owner, plain, table-byte, change, revoke, vcpu}
 use Rattle.rules.specs.Lists.{in-list, list-entry, store-index, entry-pages, read-entry, wished, cleared, carry-out, carry-out-all}
 use Rattle.rules.specs.Lists.{after-entry, run, list-call}
 use Rattle.rules.specs.Runs.{in-pool, pool, pages-listed}
 use Rattle.laws.proofs.Ranges.{by-test, each-same}
 use Rattle.laws.proofs.Counts.{count-range-up}
 use Rattle.laws.proofs.TableByte.{byte·simp, owner-own}
-use Rattle.safety.proofs.Effects.{carry-out-table, entry-sheet}
+use Rattle.safety.proofs.Change.{change-puts}
+use Rattle.safety.proofs.Effects.{carry-out-table, entry-sheet, carried-puts}
 use Rattle.safety.proofs.Entries.{wish-of, fits-plain, Read, entry-read, within-keeps}
 use Rattle.safety.proofs.Checks.{past-list}
-use Rattle.safety.proofs.Pool.Counts.{pooled, in-pool-owner, pool-counts, pool-table, pool-write, pool-put-same}
+use Rattle.safety.proofs.Pool.Counts.{pooled, in-pool-owner, pool-counts, pool-table, pool-write, pool-puts}
 
 -- a stored index leaves the pool
 pool-store-index : (k rcx : ℕ) (m : Lent) → pool (store-index k rcx m) ≡ pool m
@@ -38,8 +39,8 @@ carry-out-pool : (w : Wish) (vmpl first n : ℕ) → ((b : ℕ) → owner (wishe
 unfolding carry-out-all
 carry-out-pool w vmpl first n keeps m =
     each-same pool (carry-out w vmpl)
-    (λ p m. pool-table (put p (wished w vmpl (table-byte m p)) m) (carry-out w vmpl p m) (carry-out-table w vmpl p m)
-    ∙ pool-put-same p (wished w vmpl (table-byte m p)) m
+    (λ p m. pool-table (change (wished w vmpl) p m) (carry-out w vmpl p m) (carry-out-table w vmpl p m)
+    ∙ pool-puts (change-puts (wished w vmpl) p m)
     (in-pool-owner _ _ (keeps (table-byte m p)) ∙ sym (in-pool-owner (table-byte m p) _ refl))) (range first n) m
 
 -- Pvalidate's wishes do
@@ -107,16 +108,16 @@ plain-out b e = in-pool-owner b 0 e
 module _ (vmpl first n : ℕ) (m : Lent) where
   -- a carried out entry leaves memory
   carried-memory : carry-out-all Pool vmpl first n m .memory ≡ m .memory
-  unfolding carry-out-all carry-out cleared put
-  carried-memory = each-same (λ m. m .memory) (carry-out Pool vmpl) (λ p m. refl) (range first n) m
+  unfolding carry-out-all cleared
+  carried-memory = each-same (λ m. m .memory) (carry-out Pool vmpl) (λ p m. carried-puts Pool vmpl p m .memory) (range first n) m
 
   -- and adds its pages
   carried-pool : first + n ≤ N m → ((p : ℕ) → first ≤ p → p < first + n → owner (table-byte m p) ≡ plain)
       → pool (carry-out-all Pool vmpl first n m) ≡ pool m + n
-  unfolding carry-out-all carry-out cleared change N
+  unfolding carry-out-all N
   carried-pool h plains =
       rw (pool-counts m, pool-counts (carry-out-all Pool vmpl first n m))
-      (count-range-up (wished Pool vmpl) (carry-out Pool vmpl) (λ p m. refl) first n m in-pool h
+      (count-range-up (wished Pool vmpl) (carry-out Pool vmpl) (carry-out-table Pool vmpl) first n m in-pool h
       (λ p l b. plain-out (table-byte m p) (plains p l b)) (λ p l b. wished-pool vmpl (table-byte m p)))
 
 -- where each page of a range is below N, so is its end

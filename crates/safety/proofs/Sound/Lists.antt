@@ -15,13 +15,14 @@ use Rattle.rules.specs.Machine.{is-live, record-at, vcpu, startup}
 use Rattle.rules.specs.Sound.{claims, agrees}
 use Rattle.rules.specs.Lists.{store-index, wished, cleared, carry-out, carry-out-all, list-call}
 use Rattle.laws.proofs.TableByte.{byte·simp}
+use Rattle.safety.proofs.Change.{put-puts}
 use Rattle.safety.proofs.Effects.{same-startup, carry-out-other, carry-out-sheet, entry-sheet}
 use Rattle.safety.proofs.Entries.{fits, fits-plain, Keeps, within-keeps}
 use Rattle.safety.proofs.Checks.{past-list}
 use Rattle.safety.proofs.Sound.Facts.{Page-right, Sound}
 use Rattle.safety.proofs.Sound.Claims.{nameable}
 use Rattle.safety.proofs.Sound.Rows.{row-right, startup-range}
-use Rattle.safety.proofs.Sound.OnePage.{write-sound, fill-sound, put-sound, unclaimed-page, right-open, right-invalid, granted, right-taken}
+use Rattle.safety.proofs.Sound.OnePage.{write-sound, fill-sound, unclaimed-page, right-open, right-invalid, granted, right-taken, puts-sound}
 
 -- ---- one page
 
@@ -52,9 +53,9 @@ filled-right p m b h = h
 -- a page of an entry leaves the machine sound
 carry-out-sound : (wish : Wish) (v p : ℕ) (m : Lent) → Sound m → startup m .vmpl ≤ v → fits wish (table-byte m p) ≡ true → Sound (carry-out wish v p m)
 unfolding carry-out cleared
-carry-out-sound Invalid v p m s c f = put-sound m p _ s (right-page Invalid v p m s c f)
-carry-out-sound Valid v p m s c f = put-sound (fill p m) p _ (fill-sound p m s) (filled-right p m _ (right-page Valid v p m s c f))
-carry-out-sound Pool v p m s c f = put-sound m p _ s (right-page Pool v p m s c f)
+carry-out-sound Invalid v p m s c f = puts-sound (put-puts p _ m) s (right-page Invalid v p m s c f)
+carry-out-sound Valid v p m s c f = puts-sound (put-puts p _ (fill p m)) (fill-sound p m s) (filled-right p m _ (right-page Valid v p m s c f))
+carry-out-sound Pool v p m s c f = puts-sound (put-puts p _ m) s (right-page Pool v p m s c f)
 
 -- ---- an entry
 

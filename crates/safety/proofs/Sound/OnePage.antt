@@ -13,9 +13,10 @@ use Rattle.rules.specs.Machine.{record-at, vcpu, startup}
 use Rattle.rules.specs.Sound.{claims, agrees, well-permitted, live-fault, record-fault, table-sized, pages-sized}
 use Rattle.laws.proofs.Ranges.{by-test}
 use Rattle.laws.proofs.TableByte.{byte·simp, owner-own, valid-own, permitted-own, permissions-own}
-use Rattle.safety.proofs.Effects.{put-same, put-other, put-N}
+use Rattle.safety.proofs.Change.{Puts, change-puts, puts-same, puts-other, puts-N}
+use Rattle.safety.proofs.Effects.{same-startup}
 use Rattle.safety.proofs.Sound.Facts.{Page-right, Sound}
-use Rattle.safety.proofs.Sound.Sizes.{written-sized, filled-sized, sizes-of, put-sized}
+use Rattle.safety.proofs.Sound.Sizes.{written-sized, filled-sized, sizes-of, puts-sized}
 use Rattle.safety.proofs.Sound.Claims.{nameable, unclaimed}
 
 -- ---- memory
@@ -37,35 +38,33 @@ fill-sound p m s = changed-memory m (set (m .memory) p (zeros page-size)) s (fil
 
 -- ---- one table byte
 
-module _ (m : Lent) (p b : ℕ) where
-  rows-kept : (i : ℕ) → record-fault m i ≡ false → record-fault (put p b m) i ≡ false
-  unfolding record-fault live-fault startup vcpu record-at put
-  rows-kept i e = rw (put-N m p b) e
+module _ {p b : ℕ} {m after : Lent} (put : Puts p b m after) where
+  rows-kept : (i : ℕ) → record-fault m i ≡ false → record-fault after i ≡ false
+  unfolding record-fault live-fault startup vcpu record-at
+  rows-kept i e = rw (puts-N put, put .sheet) e
 
-  sheet-kept : (q c : ℕ) → Page-right (startup m .vmpl) (claims (m .sheet) q) c → Page-right (startup (put p b m) .vmpl) (claims (put p b m .sheet) q) c
-  unfolding startup vcpu record-at put
-  sheet-kept q c h = h
+  sheet-kept : (q c : ℕ) → Page-right (startup m .vmpl) (claims (m .sheet) q) c → Page-right (startup after .vmpl) (claims (after .sheet) q) c
+  sheet-kept q c h = rw (same-startup m after (put .sheet), put .sheet) h
 
   -- a page may take a byte that is right for what is claimed of it; past the table's end nothing is put
-  pub put-sound : Sound m → (p < N m → Page-right (startup m .vmpl) (claims (m .sheet) p) b) → Sound (put p b m)
-  put-sound s h =
-      let still = put-sized p b m (sizes-of s) in
+  pub puts-sound : Sound m → (p < N m → Page-right (startup m .vmpl) (claims (m .sheet) p) b) → Sound after
+  puts-sound s h =
+      let still = puts-sized put (sizes-of s) in
       record {
         tables = still .tables;
         memories = still .memories;
         pages = λ q l.
-            let inside : q < N m = rw (put-N m p b) at l in
+            let inside : q < N m = rw (puts-N put) at l in
             by-test (eqb q p)
-            (λ t. let e = eqb-true q p t in rw (e, put-same m p b (rw e at inside)) (sheet-kept p b (h (rw e at inside))))
-            (λ t. rw (put-other m p b q (eqb-false q p t)) (sheet-kept q (table-byte m q) (s .pages q inside)));
+            (λ t. let e = eqb-true q p t in rw (e, puts-same put (rw e at inside)) (sheet-kept p b (h (rw e at inside))))
+            (λ t. rw (puts-other put q (eqb-false q p t)) (sheet-kept q (table-byte m q) (s .pages q inside)));
         rows = λ i l. rows-kept i (s .rows i l);
       }
 
 -- the same for a change of the byte
 pub change-sound : (f : ℕ → ℕ) (p : ℕ) (m : Lent) → Sound m
     → (p < N m → Page-right (startup m .vmpl) (claims (m .sheet) p) (f (table-byte m p))) → Sound (change f p m)
-unfolding change
-change-sound f p m s h = put-sound m p (f (table-byte m p)) s h
+change-sound f p m s h = puts-sound (change-puts f p m) s h
 
 -- a page of an owner that is not claimed is claimed by no record
 pub unclaimed-page : (m : Lent) (p o : ℕ) → Sound m → p < N m → owner (table-byte m p) ≡ o → nameable o ≡ false → claims (m .sheet) p ≡ []

@@ -1,20 +1,20 @@
 -- Remap leaves a sound machine sound.
-use mathlib.Core.Path.{_≡_, refl, sym, _∙_}
+use mathlib.Core.Path.{_≡_, refl, sym, _∙_, ap}
 use mathlib.Core.Bool.{true, false, _&&_}
 use mathlib.Core.List.{List, [], _∷_, _++_}
 use Prim.Native.Nat.{ℕ, _<_}
 use native.Mathlib.Omega.{arith}
 use lib.Dec.{eqb}
-use lib.ListN.{length, set}
+use lib.ListN.{length, getD, set}
 use lib.Seq.{sets, length-sets}
 use borrow.Author.Tests.{eqb-true, eqb-false, eq-eqb, ne-eqb}
 use Rattle.rules.specs.Words.{most-pages, records, record-size, little}
-use Rattle.rules.specs.Machine.{Lent, N, page-of, owner, valid, own, table-byte, put, change, fields, is-live, holds, record-at, vcpu, startup, amend}
+use Rattle.rules.specs.Machine.{Lent, N, page-of, owner, valid, own, table-byte, change, fields, is-live, holds, record-at, vcpu, startup, amend}
 use Rattle.rules.specs.Sound.{claim, claims, agrees, pages-sized}
 use Rattle.rules.specs.Calls.{remapped, remap}
 use Rattle.laws.proofs.Ranges.{by-test}
 use Rattle.laws.proofs.Records.{fields-remapped, is-live-remapped, holds-remapped}
-use Rattle.safety.proofs.Effects.{change-N, change-byte}
+use Rattle.safety.proofs.Change.{change-sheet, change-memory, change-N, change-byte}
 use Rattle.safety.proofs.Checks.{past-remap}
 use Rattle.safety.proofs.Sound.Facts.{Page-right, Sound}
 use Rattle.safety.proofs.Sound.Sizes.{few-pages, in-sheet, record-length, pages-kept}
@@ -138,18 +138,23 @@ module _ (m : Lent) (s : Sound m) (caller : ℕ) (h : caller < records) (live : 
   abbrev named : Lent → Lent
   named mid = amend (λ r. sets r 12 (little 4 new)) caller (change (own 1) new mid)
 
+  named-sheet : (mid : Lent) → mid .sheet ≡ m .sheet → named mid .sheet ≡ new-sheet
+  unfolding amend record-at
+  named-sheet mid e = ap (λ rows. set rows caller (sets (getD rows caller []) 12 (little 4 new))) (change-sheet (own 1) new mid ∙ e)
+
   sound-again : old ≡ new → Sound (named m)
-  unfolding amend change put N table-byte record-at
+  unfolding amend N table-byte
   sound-again e =
       let sizes = change-N (own 1) new m in
-      remap-changed (named m) refl sizes (pages-kept m (s .memories) (named m) refl sizes) (pages-again e)
+      remap-changed (named m) (named-sheet m refl) sizes (pages-kept m (s .memories) (named m) (change-memory (own 1) new m) sizes) (pages-again e)
 
   sound-away : (old ≡ new → ⊥) → owner (table-byte m new) ≡ 0 → valid (table-byte m new) ≡ true → Sound (named (change (own 0) old m))
-  unfolding amend change put N table-byte record-at
+  unfolding amend N table-byte
   sound-away ne owns v =
       let mid = change (own 0) old m in
       let sizes = change-N (own 1) new mid ∙ change-N (own 0) old m in
-      remap-changed (named mid) refl sizes (pages-kept m (s .memories) (named mid) refl sizes) (pages-away ne owns v)
+      remap-changed (named mid) (named-sheet mid (change-sheet (own 0) old m)) sizes
+      (pages-kept m (s .memories) (named mid) (change-memory (own 1) new mid ∙ change-memory (own 0) old m) sizes) (pages-away ne owns v)
 
   sound-remapped : ((new ≡ old → ⊥) → owner (table-byte m new) ≡ 0) → valid (table-byte m new) ≡ true → Sound (remapped caller old new m)
   unfolding remapped

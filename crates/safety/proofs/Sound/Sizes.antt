@@ -8,12 +8,12 @@ use lib.ListN.{length, getD, set, length-set}
 use lib.Seq.{sets, length-sets}
 use borrow.Author.Tests.{eqb-true, leb-true, eq-eqb}
 use Rattle.rules.specs.Words.{page-size, least-pages, most-pages, records, record-size, between, every, each}
-use Rattle.rules.specs.Machine.{Lent, N, page-at, with-memory, written, write, zeros, fill, put, change, record-at, amend}
+use Rattle.rules.specs.Machine.{Lent, N, page-at, with-memory, written, write, zeros, fill, change, record-at, amend}
 use Rattle.rules.specs.Sound.{table-sized, pages-sized}
 use Rattle.laws.proofs.Numbers.{length-zeros}
 use Rattle.laws.proofs.Ranges.{every→}
 use Rattle.safety.proofs.Small.{every-set}
-use Rattle.safety.proofs.Effects.{put-N}
+use Rattle.safety.proofs.Change.{Puts, change-puts, puts-N}
 use Rattle.safety.proofs.Sound.Facts.{Sound}
 
 -- ---- table and sheet
@@ -127,13 +127,18 @@ unfolding table-sized fill with-memory N
 fill-sized p m s = record { tables = s .tables; memories = filled-sized m (s .memories) p; number = s .number }
 
 -- a table byte put
-pub put-sized : {n : ℕ} (p b : ℕ) (m : Lent) → Sized n m → Sized n (put p b m)
-unfolding table-sized put
-put-sized p b m s = record { tables = rw (put-N m p b) (s .tables); memories = pages-kept m (s .memories) (put p b m) refl (put-N m p b); number = put-N m p b ∙ s .number }
+pub puts-sized : {n p b : ℕ} {m after : Lent} → Puts p b m after → Sized n m → Sized n after
+unfolding table-sized
+puts-sized {m} {after} h s =
+    record {
+      tables = rw (puts-N h, h .sheet) (s .tables);
+      memories = pages-kept m (s .memories) after (h .memory) (puts-N h);
+      number = puts-N h ∙ s .number;
+    }
 
+-- or changed
 pub change-sized : {n : ℕ} (f : ℕ → ℕ) (p : ℕ) (m : Lent) → Sized n m → Sized n (change f p m)
-unfolding change
-change-sized f p m s = put-sized p _ m s
+change-sized f p m s = puts-sized (change-puts f p m) s
 
 -- a record amended, if that keeps its size
 pub amend-sized : {n : ℕ} (f : List ℕ → List ℕ) (i : ℕ) (m : Lent) → ((r : List ℕ) → length r ≡ record-size → length (f r) ≡ record-size) → Sized n m
