@@ -16,14 +16,14 @@ use Rattle.rules.specs.declared.Wish.the-variants.{Invalid, Valid, Pool}
 use Rattle.rules.specs.Answers.{Answered}
 use Rattle.rules.specs.Words.{little, range}
 use Rattle.rules.specs.Machine.{Lent, page-of, offset-of, page-at, fill, with-memory, vcpu}
-use Rattle.rules.specs.Lists.{list-next, list-entry, store-index, covered, read-entry, cleared, carry-out, carry-out-all, after-entry, run}
+use Rattle.rules.specs.Lists.{list-next, list-entry, store-index, read-entry, cleared, carry-out, carry-out-all, after-entry, run}
 use Rattle.laws.proofs.Ranges.{by-test, each-same}
 use Rattle.safety.specs.Terms.{covers, Uncovered}
 use Rattle.safety.proofs.Effects.{carried-puts}
 use Rattle.safety.proofs.Entries.{entry-read, list-kept, entry-kept}
 use Rattle.safety.proofs.Elsewhere.{Untouched, untouched-twice, untouched-here, write-elsewhere, carry-elsewhere, each-elsewhere}
 use Rattle.safety.proofs.Pool.Bytes.{in-list-written}
-use Rattle.safety.proofs.Always.SecondValidation.{covers-listed}
+use Rattle.safety.proofs.Always.SecondValidation.{covers-range}
 
 -- ---- one entry
 
@@ -36,12 +36,12 @@ uncovered-more from k p rcx m none last j low up =
 -- an entry that is carried out leaves a page that it does not cover
 pub uncovered-left : (call : ListCall) (caller rcx e first n : ℕ) (wish : Wish) (m : Lent) → read-entry call caller rcx e m ≡ Reads first n wish
     → (p : ℕ) → covers e p ≡ false → Untouched p m (carry-out-all wish (vcpu m caller .vmpl) first n m)
-unfolding carry-out-all covered
+unfolding carry-out-all
 uncovered-left call caller rcx e first n wish m reads p away =
     let told = entry-read call caller rcx e first n wish m reads in
     let vmpl = vcpu m caller .vmpl in
     each-elsewhere (carry-out wish vmpl) p (carry-elsewhere wish vmpl p) (range first n) m
-    (rw (told .starts, told .many) at (sym (covers-listed e p) ∙ away))
+    (sym (covers-range told p) ∙ away)
 
 -- memory has as many pages as before
 carried-length : (wish : Wish) (vmpl p : ℕ) (m : Lent) → length (carry-out wish vmpl p m .memory) ≡ length (m .memory)

@@ -7,7 +7,9 @@ use lib.Dec.{eqb, leb, ltb}
 use lib.ListN.{length, getD, set, List·getD-eq-default}
 use lib.Seq.{getD-set-same, getD-set-other, set-out}
 use borrow.Author.Tests.{leb-true, ltb-true, ltb-false, le-leb, lt-ltb, eqb-true, eqb-false}
+use Rattle.rules.specs.declared.Wish.{Wish}
 use Rattle.rules.specs.declared.Wish.the-variants.{Valid}
+use Rattle.rules.specs.declared.ListCall.{ListCall}
 use Rattle.rules.specs.declared.ListCall.the-variants.{Pvalidate}
 use Rattle.rules.specs.Words.{page-size, large, bits, range, every, exists, each}
 use Rattle.rules.specs.Machine.{Lent, page-at, with-memory, zeros, fill, table-byte, valid, vcpu}
@@ -19,7 +21,7 @@ use Rattle.safety.specs.Terms.{covers, covers-valid, second-code}
 use Rattle.safety.specs.Statements.{Validated-once, Second-validation-refused, Validated-pages-zero, Carried-out}
 use Rattle.safety.proofs.Small.{every-not-exists, not-among}
 use Rattle.safety.proofs.Effects.{carried-puts}
-use Rattle.safety.proofs.Entries.{wish-of, unread, covered-read, entry-read}
+use Rattle.safety.proofs.Entries.{wish-of, unread, covered-read, Read, entry-read}
 
 -- the pages that an entry covers are those of its range
 pub covers-listed : (e p : ℕ) → covers e p ≡ exists (eqb p) (covered e)
@@ -32,6 +34,12 @@ covers-listed e p =
     (λ t. let both = and-eq-true-iff (leb first p) (ltb p (first + n)) .0 t in
     t ∙ sym (exists-range first n p (leb-true first p (both .0)) (ltb-true p (first + n) (both .1))))
     (λ t. t ∙ sym (not-among test p (range first n) (→every-range test first n (λ q l h. rw (le-leb first q l, lt-ltb q (first + n) h))) t))
+
+-- once it is read, those of the range that it told
+pub covers-range : {call : ListCall} {caller rcx e first n : ℕ} {wish : Wish} {m : Lent} → Read call caller rcx e first n wish m
+    → (p : ℕ) → covers e p ≡ exists (eqb p) (range first n)
+unfolding covered
+covers-range {e} told p = rw (told .starts, told .many) at (covers-listed e p)
 
 -- (a) an entry that validates covered no valid page
 pub validated-once : Validated-once
@@ -96,12 +104,11 @@ all-filled vmpl p (q ∷ qs) m h =
 
 -- (c) the pages that an entry validates are zero
 pub validated-pages-zero : Validated-pages-zero
-unfolding Validated-pages-zero page-at carry-out-all covered Zero wish-of
+unfolding Validated-pages-zero page-at carry-out-all Zero wish-of
 validated-pages-zero caller rcx e first n wish m two h p k covering =
     let told = entry-read Pvalidate caller rcx e first n wish m h in
     let valid-wish : wish ≡ Valid = sym (told .wishes) ∙ rw two in
-    let listed = sym (covers-listed e p) ∙ covering in
-    rw (valid-wish, ← told .starts, ← told .many) (all-filled (vcpu m caller .vmpl) p (range (entry-first e) (entry-pages e)) m listed k)
+    rw valid-wish (all-filled (vcpu m caller .vmpl) p (range first n) m (sym (covers-range told p) ∙ covering) k)
 
 -- an entry that reads is carried out, and the run goes on
 pub carried-out : Carried-out

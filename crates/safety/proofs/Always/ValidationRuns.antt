@@ -3,7 +3,7 @@
 use mathlib.Core.Path.{_≡_, refl, sym, _∙_, ap}
 use mathlib.Core.Logic.{_⊎_, inl, inr}
 use mathlib.Core.Bool.{Bool, true, false, not, true≢false}
-use mathlib.Core.List.{List, [], _∷_}
+use mathlib.Core.List.{List, []}
 use Prim.Native.Nat.{ℕ, zero, suc, _+_, _/_, _%_, _<_, _≤_}
 use native.Mathlib.Omega.{arith}
 use lib.Dec.{eqb, ltb}
@@ -17,20 +17,20 @@ use Rattle.rules.specs.declared.ListCall.the-variants.{Pvalidate}
 use Rattle.rules.specs.declared.Wish.{Wish}
 use Rattle.rules.specs.declared.Wish.the-variants.{Valid}
 use Rattle.rules.specs.Answers.{Answered}
-use Rattle.rules.specs.Words.{bit, little, number, range, exists, each}
+use Rattle.rules.specs.Words.{bit, little, number, range, exists}
 use Rattle.rules.specs.Machine.{Lent, N, below, page-of, offset-of, page-at, zeros, valid, table-byte, vcpu}
 use Rattle.rules.specs.Lists.{in-list, list-next, list-entry, store-index, covered, coverable, read-entry, wished, carry-out, carry-out-all}
 use Rattle.rules.specs.Lists.{after-entry, run}
-use Rattle.laws.proofs.Ranges.{by-test}
+use Rattle.laws.proofs.Ranges.{by-test, rising-range}
+use Rattle.laws.proofs.Counts.{table-byte-each}
 use Rattle.laws.proofs.Numbers.{getD-sets-elsewhere, number-zeros}
 use Rattle.laws.proofs.TableByte.{byte·simp}
 use Rattle.safety.specs.Terms.{covers, covers-valid, Uncovered, Invalid-by, on-entry, by-entry}
 use Rattle.safety.specs.Statements.{Validated-once}
 use Rattle.safety.proofs.Small.{every-not-exists, among}
-use Rattle.safety.proofs.Change.{change-same, change-N}
-use Rattle.safety.proofs.Effects.{page-written, page-out, carry-out-table, carry-out-other}
+use Rattle.safety.proofs.Effects.{page-written, page-out, carry-out-table}
 use Rattle.safety.proofs.Entries.{wish-of, entry-read, entry-kept}
-use Rattle.safety.proofs.Always.SecondValidation.{covers-listed, validated-once}
+use Rattle.safety.proofs.Always.SecondValidation.{covers-listed, covers-range, validated-once}
 use Rattle.safety.proofs.Always.PassedRuns.{uncovered-more, uncovered-left}
 
 -- ---- the stored index
@@ -71,54 +71,15 @@ stored-at-most k rcx m =
 
 -- ---- one entry
 
--- a page past the end of the table is not valid
-valid-below : (m : Lent) (p : ℕ) → valid (table-byte m p) ≡ true → p < N m
-unfolding N table-byte valid bit
-valid-below m p h =
-    by-test (ltb p (length (m .table))) (ltb-true p (length (m .table)))
-    (λ t. absurd (true≢false (sym (rw (List·getD-eq-default (m .table) 0 (ltb-false p (length (m .table)) t)) at h))))
-
+-- a byte that is made valid is so
 wished-valid : (vmpl b : ℕ) → valid (wished Valid vmpl b) ≡ true
 unfolding wished
 wished-valid vmpl b = simp byte·simp
 
--- a page of the table that is made valid is so
-made-valid : (vmpl p : ℕ) (m : Lent) → p < N m → valid (table-byte (carry-out Valid vmpl p m) p) ≡ true
-unfolding table-byte
-made-valid vmpl p m h = rw (carry-out-table Valid vmpl p m, change-same (wished Valid vmpl) p m h) (wished-valid vmpl (table-byte m p))
-
--- and stays so where others are
-stays-valid : (vmpl p q : ℕ) (m : Lent) → valid (table-byte m p) ≡ true → valid (table-byte (carry-out Valid vmpl q m) p) ≡ true
-stays-valid vmpl p q m h =
-    by-test (eqb p q)
-    (λ t. rw (← eqb-true p q t) (made-valid vmpl p m (valid-below m p h)))
-    (λ t. rw (carry-out-other Valid vmpl q m p (eqb-false p q t)) h)
-
-all-stay-valid : (vmpl p : ℕ) (qs : List ℕ) (m : Lent) → valid (table-byte m p) ≡ true → valid (table-byte (each (carry-out Valid vmpl) qs m) p) ≡ true
-unfolding each
-all-stay-valid vmpl p [] m h = h
-all-stay-valid vmpl p (q ∷ qs) m h = all-stay-valid vmpl p qs (carry-out Valid vmpl q m) (stays-valid vmpl p q m h)
-
-carried-N : (vmpl q : ℕ) (m : Lent) → N (carry-out Valid vmpl q m) ≡ N m
-unfolding N
-carried-N vmpl q m = ap length (carry-out-table Valid vmpl q m) ∙ change-N (wished Valid vmpl) q m
-
--- so one of some pages that are made valid is so after all of them
-all-made-valid : (vmpl p : ℕ) (qs : List ℕ) (m : Lent) → p < N m → exists (eqb p) qs ≡ true → valid (table-byte (each (carry-out Valid vmpl) qs m) p) ≡ true
-unfolding each exists
-all-made-valid vmpl p [] m h x = absurd (true≢false (sym x))
-all-made-valid vmpl p (q ∷ qs) m h x =
-    by-test (eqb p q)
-    (λ t. all-stay-valid vmpl p qs (carry-out Valid vmpl q m) (rw (← eqb-true p q t) (made-valid vmpl p m h)))
-    (λ t. all-made-valid vmpl p qs (carry-out Valid vmpl q m) (rw carried-N h) (rw t at x))
-
 module _ (caller rcx e first n : ℕ) (wish : Wish) (m : Lent) (reads : read-entry Pvalidate caller rcx e m ≡ Reads first n wish) (p : ℕ)
     (two : bit 2 e ≡ true) (covering : covers e p ≡ true) where
   listed : exists (eqb p) (range first n) ≡ true
-  unfolding covered
-  listed =
-      let told = entry-read Pvalidate caller rcx e first n wish m reads in
-      rw (told .starts, told .many) at (sym (covers-listed e p) ∙ covering)
+  listed = sym (covers-range (entry-read Pvalidate caller rcx e first n wish m reads) p) ∙ covering
 
   inside : p < N m
   unfolding coverable below
@@ -129,11 +90,13 @@ module _ (caller rcx e first n : ℕ) (wish : Wish) (m : Lent) (reads : read-ent
 
   -- an entry with wish 1 makes the pages that it covers valid
   validated : valid (table-byte (carry-out-all wish (vcpu m caller .vmpl) first n m) p) ≡ true
-  unfolding carry-out-all wish-of
+  unfolding carry-out-all wish-of N
   validated =
       let told = entry-read Pvalidate caller rcx e first n wish m reads in
       let wishes : wish ≡ Valid = sym (told .wishes) ∙ rw two in
-      rw wishes (all-made-valid (vcpu m caller .vmpl) p (range first n) m inside listed)
+      let vmpl = vcpu m caller .vmpl in
+      rw (wishes, table-byte-each (wished Valid vmpl) (carry-out Valid vmpl) (carry-out-table Valid vmpl) (rising-range first n) m p listed inside)
+      (wished-valid vmpl (table-byte m p))
 
   -- and has bit 3 if one was
   excused-by-bit : valid (table-byte m p) ≡ true → bit 3 e ≡ true

@@ -1,34 +1,34 @@
 -- For statement 6: what one round, a store and a Withdraw by the startup vCPU, does to the pages, and how many it gives back.
 use mathlib.Core.Path.{_≡_, refl, sym, _∙_, ap}
 use mathlib.Core.Logic.{_⊎_, inl, inr}
-use mathlib.Core.Bool.{true, false, cond, and-eq-true-iff}
+use mathlib.Core.Bool.{true, false, cond}
 use mathlib.Core.List.{List, [], _∷_}
 use Prim.Native.Nat.{ℕ, _+_, _-_, _*_, _/_, _<_, _≤_, min}
 use native.Mathlib.Omega.{arith}
 use lib.Dec.{eqb}
 use lib.ListN.{length, length-take}
-use lib.Seq.{sets, getD-set-same}
-use borrow.Author.Tests.{eqb-true, eqb-false, ne-eqb}
-use Rattle.rules.specs.Words.{page-size, records, between, little, number, every, exists, places, each}
+use lib.Seq.{getD-set-same}
+use borrow.Author.Tests.{eqb-false, ne-eqb}
+use Rattle.rules.specs.Words.{page-size, records, between, little, exists, places, each}
 use Rattle.rules.specs.Machine.{Lent, N, offset-of, page-at, with-memory, write, owner, valid, permitted, grant, own, table-byte}
 use Rattle.rules.specs.Machine.{vcpu, startup}
-use Rattle.rules.specs.Sound.{pages-sized}
 use Rattle.rules.specs.Lists.{in-list}
 use Rattle.rules.specs.Calls.{is-free, any-free, withdrawn-pages, give-back, gpas, withdrawn}
 use Rattle.rules.specs.Call.{pending, clear-pending, set-flag}
 use Rattle.laws.proofs.Ranges.{by-test, rising→absent, length-places}
 use Rattle.laws.proofs.Counts.{count-each-down}
-use Rattle.laws.proofs.Numbers.{number-written, number-elsewhere}
 use Rattle.laws.proofs.TableByte.{byte·simp}
-use Rattle.safety.specs.Terms.{free}
-use Rattle.safety.proofs.Effects.{give-back-table, given-memory, same-startup, withdrawn-sheet, memory-written, page-written, owned-below}
+use Rattle.safety.specs.Terms.{free, last-writes}
+use Rattle.safety.proofs.Effects.{give-back-table, given-memory, same-startup, withdrawn-sheet, page-written, owned-below}
 use Rattle.safety.proofs.Checks.{withdrawn-rising, withdrawn-free, given-free, given-byte, not-given-byte}
 use Rattle.safety.proofs.Sound.Facts.{Sound}
-use Rattle.safety.proofs.Sound.Sizes.{page-whole}
+use Rattle.safety.proofs.Sound.Sizes.{page-there, page-whole}
 use Rattle.safety.proofs.Sound.Rows.{startup-lives, startup-range}
 use Rattle.safety.proofs.Sound.OnePage.{write-sound, granted, owned-valid}
 use Rattle.safety.proofs.Sound.Withdraw.{withdraw-sound}
 use Rattle.safety.proofs.Elsewhere.{Untouched, untouched-here, untouched-twice, write-elsewhere}
+use Rattle.safety.proofs.Pool.Bytes.{in-list-last}
+use Rattle.safety.proofs.Pool.Withdraw.{withdrawn-count}
 use Rattle.safety.proofs.Pool.BackCall.{list-page, list-offset, ended, calling-inside, withdraw-done}
 
 -- a page that the startup's VMPL may use as its own: plain, valid and permitted
@@ -80,17 +80,6 @@ write-sheet p o bytes m = refl
 pub write-byte : (p o : ℕ) (bytes : List ℕ) (m : Lent) (q : ℕ) → table-byte (write p o bytes m) q ≡ table-byte m q
 unfolding write with-memory table-byte
 write-byte p o bytes m q = refl
-
--- a count in two bytes, with a list behind and two bytes before it
-count-read : (page gs : List ℕ) (n x y : ℕ) → 10 ≤ length page → n < 65536
-    → number 2 (sets (sets (sets (sets page 8 (little 2 n)) 16 gs) 0 (x ∷ [])) 1 (y ∷ [])) (8 + 0) ≡ n
-count-read page gs n x y h b =
-    let one = sets page 8 (little 2 n) in
-    let two = sets one 16 gs in
-    number-elsewhere 2 (sets two 0 (x ∷ [])) 1 (y ∷ []) 8 (inr (omega arith))
-    ∙ number-elsewhere 2 two 0 (x ∷ []) 8 (inr (omega arith))
-    ∙ number-elsewhere 2 one 16 gs 8 (inl (omega arith))
-    ∙ number-written 2 page 8 n (omega arith) (omega arith)
 
 -- a page of the pool is one of the table's
 pub pool-inside : (m : Lent) (p : ℕ) → owner (table-byte m p) ≡ 3 → p < N m
@@ -174,9 +163,6 @@ module _ (m : Lent) where
 
   -- ---- the memory
 
-  same-memory : given .memory ≡ m .memory
-  same-memory = given-memory (startup m .vmpl) ps m
-
   -- the writes, all in the calling page
   abbrev counted : Lent
   counted = write k 8 (little 2 (length ps)) given
@@ -203,7 +189,7 @@ module _ (m : Lent) where
 
   given-page : (p : ℕ) → page-at given p ≡ page-at m p
   unfolding page-at
-  given-page p = rw same-memory
+  given-page p = rw (given-memory (startup m .vmpl) ps m)
 
   -- every other page keeps its bytes
   pub ended-elsewhere : (p : ℕ) → eqb p k ≡ false → page-at (ended m) p ≡ page-at m p
@@ -211,26 +197,6 @@ module _ (m : Lent) where
       rw ended-is
       (write-elsewhere p k 1 _ _ e .page ∙ write-elsewhere p k 0 _ _ e .page ∙ write-elsewhere p k 16 _ _ e .page
       ∙ write-elsewhere p k 8 _ _ e .page ∙ given-page p)
-
-  module _ (inside : k < length (m .memory)) (long : length (page-at m k) ≡ page-size) where
-    last-page : page-at (ended m) k
-        ≡ sets (sets (sets (sets (page-at m k) 8 (little 2 (length ps))) 16 (gpas ps)) 0 (0 ∷ [])) 1
-        (cond (any-free (write k 0 (0 ∷ []) listed)) 1 0 ∷ [])
-    last-page =
-        let a : k < length (given .memory) = rw same-memory inside in
-        let b : k < length (counted .memory) = rw memory-written a in
-        let c : k < length (listed .memory) = rw memory-written b in
-        let d : k < length (write k 0 (0 ∷ []) listed .memory) = rw memory-written c in
-        rw (ended-is, page-written k 1 _ (write k 0 (0 ∷ []) listed) d, page-written k 0 (0 ∷ []) listed c)
-        (rw (page-written k 16 (gpas ps) counted b, page-written k 8 (little 2 (length ps)) given a, given-page k))
-
-    -- the count that was written is there on exit
-    pub count-written : in-list 2 0 rcx (ended m) ≡ length ps
-    unfolding in-list page-size
-    count-written =
-        rw (list-page k, list-offset k, last-page)
-        (count-read (page-at m k) (gpas ps) (length ps) 0 (cond (any-free (write k 0 (0 ∷ []) listed)) 1 0)
-        (omega (arith, long)) (omega (arith, how-many)))
 
   module _ (s : Sound m) (mine : owner (table-byte m (startup m .calling)) ≡ 1) where
     ended-sound : Sound (ended m)
@@ -269,26 +235,24 @@ module _ (m : Lent) where
           turns = λ p e. rw (write-byte k 0 (1 ∷ []) m p) e;
         }
 
-    memory-length : length (m .memory) ≡ N m
-    unfolding pages-sized
-    memory-length =
-        eqb-true _ _ (and-eq-true-iff (eqb (length (m .memory)) (N m)) (every (λ page. eqb (length page) page-size) (m .memory)) .0 (s .memories) .0)
+    calling-there : k < length (m .memory)
+    calling-there = page-there m (s .memories) (calling-inside m s mine)
 
-    calling-long : k < length (m .memory) → length (page-at m k) ≡ page-size
-    unfolding page-at
-    calling-long = page-whole m (s .memories) k
+    calling-long : length (page-at m k) ≡ page-size
+    calling-long = page-whole m (s .memories) k calling-there
 
-    -- the count that Withdraw wrote
+    -- the count that Withdraw wrote, which the last writes leave
     pub count-told : in-list 2 0 rcx (ended m) ≡ length ps
+    unfolding ended last-writes clear-pending set-flag page-size
     count-told =
-        let inside : k < length (m .memory) = rw memory-length (calling-inside m s mine) in
-        count-written inside (calling-long inside)
+        let behind : 2 ≤ offset-of rcx + 0 = omega (arith, list-offset k) in
+        in-list-last 0 rcx 2 0 (withdrawn (startup m .vmpl) rcx m) (λ e. behind) (λ e. behind)
+        ∙ withdrawn-count (startup m .vmpl) rcx m (rw (list-page k) calling-there) (rw (list-page k, list-offset k) (omega (arith, calling-long)))
 
     -- after the store the call is pending
     pub store-waits : pending 0 (write k 0 (1 ∷ []) m) ≡ 1
     unfolding pending startup page-size
     store-waits =
-        let inside : k < length (m .memory) = rw memory-length (calling-inside m s mine) in
         let same : vcpu (write k 0 (1 ∷ []) m) 0 ≡ vcpu m 0 = same-startup m (write k 0 (1 ∷ []) m) (write-sheet k 0 (1 ∷ []) m) in
-        rw (same, page-written k 0 (1 ∷ []) m inside)
-        (getD-set-same (page-at m k) 0 1 0 (omega (arith, calling-long inside)))
+        rw (same, page-written k 0 (1 ∷ []) m calling-there)
+        (getD-set-same (page-at m k) 0 1 0 (omega (arith, calling-long)))
