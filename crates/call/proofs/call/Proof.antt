@@ -28,7 +28,7 @@ abbrev if1-start : tie.Else1 → tie.Start
 if1-start c = let at-fits = c .before .before in at-fits .before .before .before
 
 sized : (c : tie.Else2) → well-sized (lent (if1-start (c .before))) ≡ true
-sized c = let at-if1 = c .before in well-sized-by _ (sym (at-if1 .before .fits2 .ensures) ∙ not-false _ (at-if1 .if1 .left)) (c .if2 .left)
+sized c = let at-if1 = c .before in well-sized-by (lent (if1-start at-if1)) (sym (at-if1 .before .fits2 .ensures) ∙ not-false _ (at-if1 .if1 .left)) (omega (arith, c .if2 .left))
 
 abbrev at-start : tie.After-pending-arg3 → tie.Start
 at-start c = let at-if3 = c .before .before .before in let at-if2 = at-if3 .before .before .before in if1-start (at-if2 .before)
