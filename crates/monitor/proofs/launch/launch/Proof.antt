@@ -38,7 +38,7 @@ fits c = sym (c .before .fits2 .ensures) ∙ not-false _ (c .if1 .left)
 
 sized : (c : tie.Else2) → well-sized (buffers (start₁ (c .before))) ≡ true
 unfolding memory-sized
-sized c = well-sized-by (buffers (start₁ (c .before))) (fits (c .before)) (c .if2 .left)
+sized c = well-sized-by (buffers (start₁ (c .before))) (fits (c .before)) (omega arith)
 
 within : (c : tie.Else4) → out-of-range (start₁ (else₂ c .before) .args .plan) (length (now (start₁ (else₂ c .before) .args .table))) ≡ false
 within c = sym (c .before .out-of-range .ensures) ∙ c .if4 .left
@@ -99,7 +99,7 @@ make-requires c κs =
     let right = fits (else₂ past .before) in
     let pages = length-pages (now (a .table)) (now (a .memory)) right in
     let named = in-range _ _ (within past) in
-    record { vmsa = rw pages (named .0); calling = rw pages (named .1); most = rw pages (sizes _ _ right .most); sized = else₂ past .if2 .left }
+    record { vmsa = rw pages (named .0); calling = rw pages (named .1); most = rw pages (sizes _ _ right .most); sized = omega (arith, else₂ past .if2 .left) }
 
 same-length-2 : tie.Need-same-length-2
 same-length-2 c = search needs
