@@ -8,7 +8,7 @@ ghost use Rattle.rules.specs.Lists.{bad-list-page};
 pub fn bad_list_page(table: &[u8], vmpl: u8, rcx: u64) -> bool
     ensures { λ r. ⌜ r ≡ bad-list-page vmpl rcx (record { memory = []; table = now (table .entry); sheet = [] }) ⌝ }
 {
-    let page = rcx / 4096;
+    let page = rcx / pages::PAGE_SIZE_U64;
     if page >= table.len() as u64 {
         return true;
     }
@@ -24,5 +24,5 @@ pub fn bad_list_page(table: &[u8], vmpl: u8, rcx: u64) -> bool
     if owner != 1 {
         return true;
     }
-    rcx % 4096 == 0
+    rcx % pages::PAGE_SIZE_U64 == 0
 }

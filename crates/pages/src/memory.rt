@@ -5,6 +5,9 @@ ghost use lib.ListN.{length, set};
 ghost use Rattle.rules.specs.Words.{page-size};
 ghost use Rattle.rules.specs.Machine.{zeros};
 ghost use Rattle.rules.specs.Flat.{parts, memory-fits};
+use crate::LEAST_PAGES;
+use crate::MOST_PAGES;
+use crate::PAGE_SIZE;
 
 // Fills a part of memory with zeros.
 pub fn fill(part: &mut [u8])
@@ -21,8 +24,8 @@ pub fn fill_page(memory: &mut [u8], page: usize)
     requires { ⌜ page < length (parts page-size (now memory)) ⌝ }
     ensures { λ _. ⌜ parts page-size (now (memory .exit)) ≡ set (parts page-size (now (memory .entry))) page (zeros page-size) ⌝ }
 {
-    let start = 4096 * page;
-    let end = start + 4096;
+    let start = PAGE_SIZE * page;
+    let end = start + PAGE_SIZE;
     fill(&mut memory[start..end]);
 }
 
@@ -30,11 +33,11 @@ pub fn fill_page(memory: &mut [u8], page: usize)
 pub fn fits(n: usize, bytes: usize) -> bool
     ensures { λ r. ⌜ r ≡ memory-fits n bytes ⌝ }
 {
-    if n < 3 {
+    if n < LEAST_PAGES {
         return false;
     }
-    if n > 8192 {
+    if n > MOST_PAGES {
         return false;
     }
-    bytes == 4096 * n
+    bytes == PAGE_SIZE * n
 }

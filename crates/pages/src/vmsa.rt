@@ -7,26 +7,27 @@ ghost use Rattle.rules.specs.Words.{page-size};
 ghost use Rattle.rules.specs.Machine.{vmsa-vmpl, vmsa-features, efer};
 ghost use Rattle.rules.specs.Launch.{unfit-vmsa};
 ghost use Rattle.rules.specs.Flat.{parts};
+use crate::PAGE_SIZE;
 
 pub fn vmpl_of(memory: &[u8], page: usize) -> u8
     requires { ⌜ page < length (parts page-size (now memory)) ⌝ }
     ensures { λ r. ⌜ r ≡ vmsa-vmpl (getD (parts page-size (now (memory .entry))) page []) ⌝ }
 {
-    parts::byte(memory, 4096, page, 0xCA)
+    parts::byte(memory, PAGE_SIZE, page, 0xCA)
 }
 
 pub fn features_of(memory: &[u8], page: usize) -> u64
     requires { ⌜ page < length (parts page-size (now memory)) ⌝ }
     ensures { λ r. ⌜ r ≡ vmsa-features (getD (parts page-size (now (memory .entry))) page []) ⌝ }
 {
-    parts::number8(memory, 4096, page, 0x3B0)
+    parts::number8(memory, PAGE_SIZE, page, 0x3B0)
 }
 
 pub fn efer_of(memory: &[u8], page: usize) -> u64
     requires { ⌜ page < length (parts page-size (now memory)) ⌝ }
     ensures { λ r. ⌜ r ≡ efer (getD (parts page-size (now (memory .entry))) page []) ⌝ }
 {
-    parts::number8(memory, 4096, page, 0xD0)
+    parts::number8(memory, PAGE_SIZE, page, 0xD0)
 }
 
 // VMPL not 1 to 3, or EFER bit 12 clear.

@@ -6,6 +6,10 @@ pub const RECORDS: usize = 16;
 
 pub const RECORD_SIZE: usize = 32;
 
+pub const SHEET_SIZE: usize = RECORD_SIZE * RECORDS;
+
+pub const RECORDS_WITHOUT_POOL: usize = 4;
+
 pub const LIVE: usize = 0;
 
 pub const VMPL: usize = 1;
