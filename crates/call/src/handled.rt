@@ -2,7 +2,8 @@
 ghost use mathlib.Core.Path.{_≡_};
 ghost use Rattle.rules.specs.Answers.{Answered};
 ghost use Rattle.rules.specs.Call;
-ghost use Rattle.rules.specs.Flat.{Buffers, parted};
+ghost use Rattle.rules.specs.Machine.{machine-of};
+ghost use Rattle.rules.specs.Flat.{buffers, parted};
 ghost use Rattle.laws.specs.Tested.{Tested};
 use query_calls::Told;
 use rules::Code;
@@ -17,18 +18,18 @@ pub fn dispatch(
     g: Registers,
     caller: usize,
 ) -> Told
-    requires { ⌜ Tested (record { memory = now memory; table = now table; sheet = now sheet }) caller ⌝ }
+    requires { ⌜ Tested (buffers (now memory) (now table) (now sheet)) caller ⌝ }
     ensures { λ r. ⌜
         Rattle.rules.specs.Call.dispatch caller
         (record {
           registers = g;
-          machine = record { lent = parted (record { memory = now (memory .entry); table = now (table .entry); sheet = now (sheet .entry) }) };
+          machine = machine-of (parted (buffers (now (memory .entry)) (now (table .entry)) (now (sheet .entry))));
         })
         ≡ record {
           answer = r .code;
           after = record {
             registers = Rattle.rules.specs.Call.with-rcx (r .rcx) g;
-            machine = record { lent = parted (record { memory = now (memory .exit); table = now (table .exit); sheet = now (sheet .exit) }) };
+            machine = machine-of (parted (buffers (now (memory .exit)) (now (table .exit)) (now (sheet .exit))));
           };
         } ⌝ }
 {
@@ -57,14 +58,14 @@ pub fn dispatch(
 
 // The byte that says that a call is made.
 pub fn pending(memory: &[u8], table: &[u8], sheet: &[u8], caller: usize) -> u8
-    requires { ⌜ Tested (record { memory = now memory; table = now table; sheet = now sheet }) caller ⌝ }
+    requires { ⌜ Tested (buffers (now memory) (now table) (now sheet)) caller ⌝ }
     ensures { λ r. ⌜
         r
         ≡ Rattle.rules.specs.Call.pending caller
-        (parted (record { memory = now (memory .entry); table = now (table .entry); sheet = now (sheet .entry) })) ⌝ }
+        (parted (buffers (now (memory .entry)) (now (table .entry)) (now (sheet .entry)))) ⌝ }
 {
     let page = parts::number4(sheet, sheet::RECORD_SIZE, caller, sheet::CALLING) as usize;
-    parts::byte(memory, 4096, page, 0)
+    parts::byte(memory, pages::PAGE_SIZE, page, 0)
 }
 
 // First the pending byte, then the protocol, then the call.
@@ -75,18 +76,18 @@ pub fn handle(
     g: Registers,
     caller: usize,
 ) -> Told
-    requires { ⌜ Tested (record { memory = now memory; table = now table; sheet = now sheet }) caller ⌝ }
+    requires { ⌜ Tested (buffers (now memory) (now table) (now sheet)) caller ⌝ }
     ensures { λ r. ⌜
         Rattle.rules.specs.Call.handle caller
         (record {
           registers = g;
-          machine = record { lent = parted (record { memory = now (memory .entry); table = now (table .entry); sheet = now (sheet .entry) }) };
+          machine = machine-of (parted (buffers (now (memory .entry)) (now (table .entry)) (now (sheet .entry))));
         })
         ≡ record {
           answer = r .code;
           after = record {
             registers = Rattle.rules.specs.Call.with-rcx (r .rcx) g;
-            machine = record { lent = parted (record { memory = now (memory .exit); table = now (table .exit); sheet = now (sheet .exit) }) };
+            machine = machine-of (parted (buffers (now (memory .exit)) (now (table .exit)) (now (sheet .exit))));
           };
         } ⌝ }
 {

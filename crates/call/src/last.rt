@@ -7,7 +7,7 @@ ghost use Rattle.rules.specs.Words.{page-size, exists};
 ghost use Rattle.rules.specs.Machine.{written};
 ghost use Rattle.rules.specs.Calls.{is-free};
 ghost use Rattle.rules.specs.Call;
-ghost use Rattle.rules.specs.Flat.{Buffers, parts, parted};
+ghost use Rattle.rules.specs.Flat.{buffers, parts, parted};
 ghost use Rattle.sheet.specs.Row.{Row};
 
 // A page past the end has no byte to write, here as in the definition; so no call need be shown to leave the sheet's page numbers below N.
@@ -15,8 +15,8 @@ fn put_byte(memory: &mut [u8], page: usize, offset: usize, b: u8)
     requires { ⌜ offset < page-size ⌝ }
     ensures { λ _. ⌜ parts page-size (now (memory .exit)) ≡ written page offset (b ∷ []) (parts page-size (now (memory .entry))) ⌝ }
 {
-    if page < memory.len() / 4096 {
-        parts::put_byte(memory, 4096, page, offset, b);
+    if page < memory.len() / pages::PAGE_SIZE {
+        parts::put_byte(memory, pages::PAGE_SIZE, page, offset, b);
     }
 }
 
@@ -32,8 +32,8 @@ pub fn set_flag(memory: &mut [u8], table: &[u8], sheet: &[u8])
     requires { ⌜ Row (now sheet) 0 ⌝ }
     ensures { λ _. ⌜
         Rattle.rules.specs.Call.set-flag
-        (parted (record { memory = now (memory .entry); table = now (table .entry); sheet = now (sheet .entry) }))
-        ≡ parted (record { memory = now (memory .exit); table = now (table .entry); sheet = now (sheet .entry) }) ⌝ }
+        (parted (buffers (now (memory .entry)) (now (table .entry)) (now (sheet .entry))))
+        ≡ parted (buffers (now (memory .exit)) (now (table .entry)) (now (sheet .entry))) ⌝ }
 {
     let page = parts::number4(sheet, sheet::RECORD_SIZE, 0, sheet::CALLING) as usize;
     put_byte(memory, page, 1, flag(table));
@@ -44,8 +44,8 @@ pub fn clear_pending(memory: &mut [u8], table: &[u8], sheet: &[u8], caller: usiz
     requires { ⌜ Row (now sheet) caller ⌝ }
     ensures { λ _. ⌜
         Rattle.rules.specs.Call.clear-pending caller
-        (parted (record { memory = now (memory .entry); table = now (table .entry); sheet = now (sheet .entry) }))
-        ≡ parted (record { memory = now (memory .exit); table = now (table .entry); sheet = now (sheet .entry) }) ⌝ }
+        (parted (buffers (now (memory .entry)) (now (table .entry)) (now (sheet .entry))))
+        ≡ parted (buffers (now (memory .exit)) (now (table .entry)) (now (sheet .entry))) ⌝ }
 {
     let page = parts::number4(sheet, sheet::RECORD_SIZE, caller, sheet::CALLING) as usize;
     put_byte(memory, page, 0, 0);

@@ -6,7 +6,7 @@ pub mod last;
 ghost use mathlib.Core.Path.{_≡_};
 ghost use Rattle.rules.specs.Answers.{Answered, code-number};
 ghost use Rattle.rules.specs.Call;
-ghost use Rattle.rules.specs.Flat.{Buffers, parted};
+ghost use Rattle.rules.specs.Flat.{buffers, parted};
 ghost use Rattle.rules.specs.Promises.{Call-promise};
 ghost use Rattle.sheet.specs.Row.{Row};
 use query_calls::Told;
@@ -56,14 +56,14 @@ fn finish(
           answer = told .code;
           after = record {
             registers = Rattle.rules.specs.Call.with-rcx (told .rcx) g;
-            machine = record { lent = parted (record { memory = now (memory .entry); table = now (table .entry); sheet = now (sheet .entry) }) };
+            machine = machine-of (parted (buffers (now (memory .entry)) (now (table .entry)) (now (sheet .entry))));
           };
         })
         ≡ record {
           answer = r .outcome;
           after = record {
             registers = r .registers;
-            machine = record { lent = parted (record { memory = now (memory .exit); table = now (table .entry); sheet = now (sheet .entry) }) };
+            machine = machine-of (parted (buffers (now (memory .exit)) (now (table .entry)) (now (sheet .entry))));
           };
         } ⌝ }
 {
@@ -109,12 +109,12 @@ pub fn call(
 ) -> Called
     ensures { λ r. ⌜
         Call-promise caller
-        (record { registers = g; machine = record { memory = now (memory .entry); table = now (table .entry); sheet = now (sheet .entry) } })
+        (record { registers = g; machine = buffers (now (memory .entry)) (now (table .entry)) (now (sheet .entry)) })
         (record {
           answer = r .outcome;
           after = record {
             registers = r .registers;
-            machine = record { memory = now (memory .exit); table = now (table .exit); sheet = now (sheet .exit) };
+            machine = buffers (now (memory .exit)) (now (table .exit)) (now (sheet .exit));
           };
         }) ⌝ }
 {
@@ -122,7 +122,7 @@ pub fn call(
     if !fits {
         return left(Outcome::BadMachine, g);
     }
-    if sheet.len() != 512 {
+    if sheet.len() != sheet::SHEET_SIZE {
         return left(Outcome::BadMachine, g);
     }
     if sheet::shape::bad_sheet(sheet, table.len(), caller) {

@@ -1,24 +1,18 @@
 -- What is known once Create's tests are passed, where its effects begin.
 use Prim.Native.Nat.{ℕ, _*_, _<_, _≤_}
 use mathlib.Core.Path.{_≡_}
-use mathlib.Core.Bool.{Bool, true, cond, not, _&&_, _||_}
+use mathlib.Core.Bool.{true, cond}
 use mathlib.Core.List.{List}
-use lib.Dec.{ltb, eqb}
-use lib.ListN.{length, getD}
+use lib.ListN.{length}
 use Rattle.rules.specs.Words.{page-size, most-pages, records, record-size, lowest}
-use Rattle.rules.specs.Machine.{owner, plain, valid, needs-page}
+use Rattle.rules.specs.Machine.{needs-page}
 use Rattle.rules.specs.Calls.{is-free}
 use Rattle.rules.specs.Flat.{Buffers, parts}
 
--- one page: "not below N, not valid, not plain"
-unfoldable pub unfit-page : List ℕ → ℕ → Bool
-unfit-page table p = not (ltb p (length table) && valid (getD table p 0)) || not (eqb (owner (getD table p 0)) plain)
-
--- what is known where the vCPU is tested: its page is one of memory, and the caller is a record of the sheet
-pub record Asking (memory sheet : List ℕ) (caller vmsa : ℕ) : Type 0 where
+-- what is known where the vCPU is tested: its page is one of memory, and the sheet has its size
+pub record Asking (memory sheet : List ℕ) (vmsa : ℕ) : Type 0 where
   pub page : vmsa < length (parts page-size memory)
   pub whole : length sheet ≡ record-size * records
-  pub told : caller < records
 
 -- both pages are of the table, and so is the lowest free pool page where record i needs one
 pub record Named (table : List ℕ) (i vmsa calling pool : ℕ) : Type 0 where

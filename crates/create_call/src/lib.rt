@@ -8,39 +8,37 @@ ghost use lib.ListN.{length, getD, set};
 ghost use Rattle.rules.specs.Words.{record-size, records, exists, lowest};
 ghost use Rattle.rules.specs.Answers.{Answered};
 ghost use Rattle.rules.specs.Machine.{Lent, own, pool-in-use, fields, is-live, needs-page};
-ghost use Rattle.rules.specs.Calls.{Asked, unfit-pages, unfit-vcpu, is-free, created, create};
-ghost use Rattle.rules.specs.Flat.{Buffers, parts, parted};
+ghost use Rattle.rules.specs.Calls.{Asked, unfit-page, unfit-pages, unfit-vcpu, is-free, created, create};
+ghost use Rattle.rules.specs.Flat.{buffers, parts, parted};
+ghost use Rattle.laws.specs.Alone.{table-alone};
 ghost use Rattle.laws.specs.Tested.{Tested};
-ghost use Rattle.sheet.specs.Row.{Row, row, vcpu-in};
-ghost use Rattle.create_call.specs.Fit.{unfit-page, Asking, Named, Fit};
+ghost use Rattle.sheet.specs.Row.{Row, row};
+ghost use Rattle.create_call.specs.Fit.{Asking, Named, Fit};
+use pages::PAGE_SIZE_U64;
 use rules::Code;
 use rules::Vcpu;
 
-// A page not below N, not valid or not plain. All bits of its number count.
-fn unfit_page(table: &[u8], page: u64) -> bool
-    ensures { λ r. ⌜ r ≡ unfit-page (now (table .entry)) page ⌝ }
+// A page that is not usable for a caller of this VMPL, or not plain.
+fn unfit_page(table: &[u8], vmpl: u8, page: u64) -> bool
+    ensures { λ r. ⌜ r ≡ unfit-page vmpl (table-alone (now (table .entry))) page ⌝ }
 {
-    if page >= table.len() as u64 {
+    let usable = pages::usable::is_usable(table, vmpl, page);
+    if !usable {
         return true;
     }
-    let b = table[page as usize];
-    let valid = pages::byte::is_valid(b);
-    if !valid {
-        return true;
-    }
-    pages::byte::owner_of(b) != 0
+    pages::byte::owner_of(table[page as usize]) != 0
 }
 
 // Either page unfit, or both the same.
-fn unfit_pages(table: &[u8], vmsa: u64, calling: u64) -> bool
+fn unfit_pages(table: &[u8], vmpl: u8, vmsa: u64, calling: u64) -> bool
     ensures { λ r. ⌜
-        r ≡ unfit-pages (record { caller-vmpl = 0; vmsa = vmsa; calling = calling; apic = 0 })
-        (record { memory = []; table = now (table .entry); sheet = [] }) ⌝ }
+        r ≡ unfit-pages (record { caller-vmpl = vmpl; vmsa = vmsa; calling = calling; apic = 0 })
+        (table-alone (now (table .entry))) ⌝ }
 {
-    if unfit_page(table, vmsa) {
+    if unfit_page(table, vmpl, vmsa) {
         return true;
     }
-    if unfit_page(table, calling) {
+    if unfit_page(table, vmpl, calling) {
         return true;
     }
     vmsa == calling
@@ -89,17 +87,16 @@ fn free_record(sheet: &[u8]) -> usize
 }
 
 // VMPL or EFER in the VMSA page unfit, VMPL below the caller's, features unlike record 0's, or the APIC ID of a live record.
-fn unfit_vcpu(memory: &[u8], sheet: &[u8], caller: usize, vmsa: usize, apic: u32) -> bool
-    requires { ⌜ Asking (now memory) (now sheet) caller vmsa ⌝ }
+fn unfit_vcpu(memory: &[u8], sheet: &[u8], caller_vmpl: u8, vmsa: usize, apic: u32) -> bool
+    requires { ⌜ Asking (now memory) (now sheet) vmsa ⌝ }
     ensures { λ r. ⌜
-        r ≡ unfit-vcpu (record { caller-vmpl = vcpu-in (now (sheet .entry)) caller .vmpl; vmsa = vmsa; calling = 0; apic = apic })
-        (parted (record { memory = now (memory .entry); table = []; sheet = now (sheet .entry) })) ⌝ }
+        r ≡ unfit-vcpu (record { caller-vmpl = «caller_vmpl»; vmsa = vmsa; calling = 0; apic = apic })
+        (parted (buffers (now (memory .entry)) [] (now (sheet .entry)))) ⌝ }
 {
     if pages::vmsa::is_unfit(memory, vmsa) {
         return true;
     }
     let vmpl = pages::vmsa::vmpl_of(memory, vmsa);
-    let caller_vmpl = parts::byte(sheet, sheet::RECORD_SIZE, caller, sheet::VMPL);
     if vmpl < caller_vmpl {
         return true;
     }
@@ -165,7 +162,7 @@ fn mark_pages(table: &mut [u8], i: usize, vmsa: usize, calling: usize, pool: usi
     ensures { λ _. ⌜
         now (table .exit)
         ≡ created (record { caller-vmpl = 0; vmsa = vmsa; calling = calling; apic = 0 }) i
-        (record { memory = []; table = now (table .entry); sheet = [] }) .table ⌝ }
+        (table-alone (now (table .entry))) .table ⌝ }
 {
     let b = table[vmsa];
     let revoked = pages::byte::revoked(b);
@@ -184,11 +181,11 @@ fn make(
     calling: usize,
     apic: u32,
 )
-    requires { ⌜ Fit (record { memory = now memory; table = now table; sheet = now sheet }) i vmsa calling ⌝ }
+    requires { ⌜ Fit (buffers (now memory) (now table) (now sheet)) i vmsa calling ⌝ }
     ensures { λ _. ⌜
-        parted (record { memory = now (memory .entry); table = now (table .exit); sheet = now (sheet .exit) })
+        parted (buffers (now (memory .entry)) (now (table .exit)) (now (sheet .exit)))
         ≡ created (record { caller-vmpl = 0; vmsa = vmsa; calling = calling; apic = apic }) i
-        (parted (record { memory = now (memory .entry); table = now (table .entry); sheet = now (sheet .entry) })) ⌝ }
+        (parted (buffers (now (memory .entry)) (now (table .entry)) (now (sheet .entry)))) ⌝ }
 {
     let pool = pool_page(table, i);
     let v = Vcpu {
@@ -217,27 +214,28 @@ pub fn create(
     rdx: u64,
     r8: u64,
 ) -> Code
-    requires { ⌜ Tested (record { memory = now memory; table = now table; sheet = now sheet }) caller ⌝ }
+    requires { ⌜ Tested (buffers (now memory) (now table) (now sheet)) caller ⌝ }
     ensures { λ r. ⌜
-        create caller rcx rdx r8 (parted (record { memory = now (memory .entry); table = now (table .entry); sheet = now (sheet .entry) }))
+        create caller rcx rdx r8 (parted (buffers (now (memory .entry)) (now (table .entry)) (now (sheet .entry))))
         ≡ record {
           answer = r;
-          after = parted (record { memory = now (memory .entry); table = now (table .exit); sheet = now (sheet .exit) });
+          after = parted (buffers (now (memory .entry)) (now (table .exit)) (now (sheet .exit)));
         } ⌝ }
 {
-    if rcx % 4096 != 0 {
+    if rcx % PAGE_SIZE_U64 != 0 {
         return Code::Parameter;
     }
-    if rdx % 4096 != 0 {
+    if rdx % PAGE_SIZE_U64 != 0 {
         return Code::Parameter;
     }
-    if unfit_pages(table, rcx / 4096, rdx / 4096) {
+    let vmpl = parts::byte(sheet, sheet::RECORD_SIZE, caller, sheet::VMPL);
+    if unfit_pages(table, vmpl, rcx / PAGE_SIZE_U64, rdx / PAGE_SIZE_U64) {
         return Code::Address;
     }
-    let vmsa = (rcx / 4096) as usize;
-    let calling = (rdx / 4096) as usize;
+    let vmsa = (rcx / PAGE_SIZE_U64) as usize;
+    let calling = (rdx / PAGE_SIZE_U64) as usize;
     let apic = (r8 % 0x100000000) as u32;
-    if unfit_vcpu(memory, sheet, caller, vmsa, apic) {
+    if unfit_vcpu(memory, sheet, vmpl, vmsa, apic) {
         return Code::Parameter;
     }
     let i = free_record(sheet);

@@ -8,10 +8,12 @@ ghost use lib.ListN.{length, getD, set};
 ghost use Rattle.rules.specs.Words.{page-size, records, record-size, little, without-bit, lowest};
 ghost use Rattle.rules.specs.Machine.{written, zeros, own, fields, is-live, holds, efer};
 ghost use Rattle.rules.specs.Calls;
-ghost use Rattle.rules.specs.Flat.{parts, parted};
+ghost use Rattle.rules.specs.Flat.{buffers, parts, parted};
 ghost use Rattle.laws.specs.Tested.{Tested};
 ghost use Rattle.sheet.specs.Row.{Row, row};
 ghost use Rattle.delete_call.specs.Live.{Pooled, Live};
+use pages::PAGE_SIZE;
+use pages::PAGE_SIZE_U64;
 use rules::Code;
 use rules::Vcpu;
 
@@ -73,7 +75,7 @@ fn clear_svme(memory: &mut [u8], page: usize)
         (parts page-size (now (memory .entry))) ⌝ }
 {
     let efer = pages::vmsa::efer_of(memory, page);
-    parts::put_number8(memory, 4096, page, 0xD0, without_svme(efer));
+    parts::put_number8(memory, PAGE_SIZE, page, 0xD0, without_svme(efer));
 }
 
 // The pool page that a record holds is free, if it holds one.
@@ -115,11 +117,11 @@ fn clear_record(sheet: &mut [u8], i: usize)
 
 // What Delete does to the machine, for a caller of this VMPL, in the paper's order.
 fn deleted(memory: &mut [u8], table: &mut [u8], sheet: &mut [u8], vmpl: u8, i: usize)
-    requires { ⌜ Live (record { memory = now memory; table = now table; sheet = now sheet }) i ⌝ }
+    requires { ⌜ Live (buffers (now memory) (now table) (now sheet)) i ⌝ }
     ensures { λ _. ⌜
-        parted (record { memory = now (memory .exit); table = now (table .exit); sheet = now (sheet .exit) })
+        parted (buffers (now (memory .exit)) (now (table .exit)) (now (sheet .exit)))
         ≡ Rattle.rules.specs.Calls.deleted vmpl i
-        (parted (record { memory = now (memory .entry); table = now (table .entry); sheet = now (sheet .entry) })) ⌝ }
+        (parted (buffers (now (memory .entry)) (now (table .entry)) (now (sheet .entry)))) ⌝ }
 {
     let vmsa = parts::number4(sheet, sheet::RECORD_SIZE, i, sheet::VMSA) as usize;
     let calling = parts::number4(sheet, sheet::RECORD_SIZE, i, sheet::CALLING) as usize;
@@ -139,19 +141,19 @@ pub fn delete(
     caller: usize,
     rcx: u64,
 ) -> Code
-    requires { ⌜ Tested (record { memory = now memory; table = now table; sheet = now sheet }) caller ⌝ }
+    requires { ⌜ Tested (buffers (now memory) (now table) (now sheet)) caller ⌝ }
     ensures { λ r. ⌜
         Rattle.rules.specs.Calls.delete caller rcx
-        (parted (record { memory = now (memory .entry); table = now (table .entry); sheet = now (sheet .entry) }))
+        (parted (buffers (now (memory .entry)) (now (table .entry)) (now (sheet .entry))))
         ≡ record {
           answer = r;
-          after = parted (record { memory = now (memory .exit); table = now (table .exit); sheet = now (sheet .exit) });
+          after = parted (buffers (now (memory .exit)) (now (table .exit)) (now (sheet .exit)));
         } ⌝ }
 {
-    if rcx % 4096 != 0 {
+    if rcx % PAGE_SIZE_U64 != 0 {
         return Code::Parameter;
     }
-    let i = named_by(sheet, rcx / 4096);
+    let i = named_by(sheet, rcx / PAGE_SIZE_U64);
     if i >= sheet::RECORDS {
         return Code::Parameter;
     }

@@ -8,13 +8,15 @@ ghost use Rattle.rules.specs.Words.{registers-size};
 ghost use Rattle.rules.specs.Call.{Posed};
 ghost use Rattle.rules.specs.declared.Plan.{Plan};
 ghost use Rattle.rules.specs.Answers.{Answered, outcome-number, launched-number, verdict-number};
-ghost use Rattle.rules.specs.Flat.{Buffers, registers-of, register-bytes};
+ghost use Rattle.rules.specs.Flat.{buffers, registers-of, register-bytes};
 ghost use Rattle.rules.specs.Promises.{Monitor-launch-promise, Monitor-store-promise, Monitor-mark-promise, Monitor-call-promise};
 use rules::Launched;
 use rules::Outcome;
 use rules::Plan;
 use rules::Registers;
 use rules::Verdict;
+
+pub const REGISTERS_SIZE: usize = 48;
 
 fn launched(answer: Launched) -> u32
     ensures { λ r. ⌜ r ≡ launched-number answer ⌝ }
@@ -53,10 +55,10 @@ pub extern "C" fn monitor_launch(
     ensures { λ r. ⌜
         Monitor-launch-promise n
         (record { first = «monitor_first»; count = «monitor_count»; vmsa = «vmsa_page»; calling = «calling_page»; apic = «apic_id»; valid = «valid_below» })
-        (record { memory = now (memory .entry); table = now (table .entry); sheet = now (sheet .entry) })
+        (buffers (now (memory .entry)) (now (table .entry)) (now (sheet .entry)))
         (record {
           answer = r;
-          after = record { memory = now (memory .exit); table = now (table .exit); sheet = now (sheet .exit) };
+          after = buffers (now (memory .exit)) (now (table .exit)) (now (sheet .exit));
         }) ⌝ }
 {
     let plan = Plan {
@@ -143,17 +145,17 @@ pub extern "C" fn monitor_call(
         Monitor-call-promise caller
         (record {
           registers = now (registers .entry);
-          machine = record { memory = now (memory .entry); table = now (table .entry); sheet = now (sheet .entry) };
+          machine = buffers (now (memory .entry)) (now (table .entry)) (now (sheet .entry));
         })
         (record {
           answer = r;
           after = record {
             registers = now (registers .exit);
-            machine = record { memory = now (memory .exit); table = now (table .exit); sheet = now (sheet .exit) };
+            machine = buffers (now (memory .exit)) (now (table .exit)) (now (sheet .exit));
           };
         }) ⌝ }
 {
-    if registers.len() != 48 {
+    if registers.len() != REGISTERS_SIZE {
         return outcome(Outcome::BadMachine);
     }
     let g = read_registers(registers);

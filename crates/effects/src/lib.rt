@@ -6,6 +6,7 @@ ghost use lib.ListN.{length};
 ghost use Rattle.rules.specs.Words.{page-size};
 ghost use Rattle.rules.specs.Lists.{wished, cleared, carry-out-all};
 ghost use Rattle.rules.specs.Flat.{parts};
+ghost use Rattle.laws.specs.Alone.{without-sheet};
 ghost use Rattle.effects.specs.Covers.{Covers};
 use pages::byte;
 use pages::memory;
@@ -28,7 +29,7 @@ fn clear(memory: &mut [u8], wish: Wish, p: usize)
     requires { ⌜ p < length (parts page-size (now memory)) ⌝ }
     ensures { λ _. ⌜
         parts page-size (now (memory .exit))
-        ≡ cleared wish p (record { memory = parts page-size (now (memory .entry)); table = []; sheet = [] }) .memory ⌝ }
+        ≡ cleared wish p (without-sheet (now (memory .entry)) []) .memory ⌝ }
 {
     match wish {
         Wish::Invalid => {
@@ -49,8 +50,8 @@ fn carry_out(memory: &mut [u8], table: &mut [u8], wish: Wish, vmpl: u8, p: usize
     requires { ⌜ Covers (now memory) (now table) p 1 ⌝ }
     ensures { λ _. ⌜
         Rattle.rules.specs.Lists.carry-out wish vmpl p
-        (record { memory = parts page-size (now (memory .entry)); table = now (table .entry); sheet = [] })
-        ≡ record { memory = parts page-size (now (memory .exit)); table = now (table .exit); sheet = [] } ⌝ }
+        (without-sheet (now (memory .entry)) (now (table .entry)))
+        ≡ without-sheet (now (memory .exit)) (now (table .exit)) ⌝ }
 {
     clear(memory, wish, p);
     table[p] = wished_byte(wish, vmpl, table[p]);
@@ -68,8 +69,8 @@ pub fn carry_out_all(
     requires { ⌜ Covers (now memory) (now table) first count ⌝ }
     ensures { λ _. ⌜
         carry-out-all wish vmpl first count
-        (record { memory = parts page-size (now (memory .entry)); table = now (table .entry); sheet = [] })
-        ≡ record { memory = parts page-size (now (memory .exit)); table = now (table .exit); sheet = [] } ⌝ }
+        (without-sheet (now (memory .entry)) (now (table .entry)))
+        ≡ without-sheet (now (memory .exit)) (now (table .exit)) ⌝ }
 {
     let mut i = 0;
     while i < count {

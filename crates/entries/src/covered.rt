@@ -1,17 +1,17 @@
 // Tests of the pages that an entry covers: all of them, and not only the first.
 ghost use mathlib.Core.Path.{_≡_};
-ghost use mathlib.Core.Bool.{not, _&&_};
-ghost use Prim.Native.Nat.{_+_, _≤_};
-ghost use lib.Dec.{eqb};
+ghost use Prim.Native.Nat.{_+_, _*_, _≤_};
 ghost use lib.ListN.{length, getD};
-ghost use Rattle.rules.specs.Words.{range, every, count};
-ghost use Rattle.rules.specs.Machine.{plain, owner, valid};
+ghost use Rattle.rules.specs.Words.{page-size, range, every, count};
+ghost use Rattle.rules.specs.Machine.{valid};
+ghost use Rattle.rules.specs.Lists.{coverable};
+ghost use Rattle.laws.specs.Alone.{table-alone};
 use pages::byte;
 
-// Each of n pages from `first` on is plain and does not hold the list.
-pub fn all_plain(table: &[u8], first: usize, n: usize, list: usize) -> bool
+// Each of n pages from `first` on may be covered by an entry of a list in page `list`, for a caller of this VMPL.
+pub fn all_coverable(table: &[u8], vmpl: u8, first: usize, n: usize, list: usize) -> bool
     requires { ⌜ first + n ≤ length (now table) ⌝ }
-    ensures { λ r. ⌜ r ≡ every (λ p. eqb (owner (getD (now (table .entry)) p 0)) plain && not (eqb p list)) (range first n) ⌝ }
+    ensures { λ r. ⌜ r ≡ every (coverable vmpl (page-size * list) (table-alone (now (table .entry)))) (range first n) ⌝ }
 {
     let mut i = 0;
     while i < n {

@@ -4,10 +4,13 @@ ghost use mathlib.Core.Bool.{cond, not, _&&_};
 ghost use Prim.Native.Nat.{_+_, _≤_};
 ghost use lib.Dec.{eqb};
 ghost use lib.ListN.{length};
-ghost use Rattle.rules.specs.Words.{bit, range, every};
+ghost use Rattle.rules.specs.Words.{most-pages, bit, range, every};
+ghost use Rattle.rules.specs.Machine.{usable};
 ghost use Rattle.rules.specs.Lists.{reserved-bits, malformed, entry-pages};
+ghost use Rattle.laws.specs.Alone.{table-alone};
 ghost use Rattle.entries.specs.Reading.{valid-at, invalid-at, judged, pooled, read-at};
 use crate::covered;
+use pages::LARGE;
 use rules::Code;
 use rules::Entry;
 use rules::ListCall;
@@ -42,7 +45,7 @@ fn is_malformed(call: ListCall, e: u64) -> bool
 fn pages_of(e: u64) -> usize
     ensures { λ r. ⌜ r ≡ entry-pages e ⌝ }
 {
-    if e % 4 == 0 { 1 } else { 512 }
+    if e % 4 == 0 { 1 } else { LARGE }
 }
 
 // Covered pages not all of equal validity.
@@ -96,9 +99,9 @@ fn read_pvalidate(table: &[u8], e: u64, first: usize, n: usize) -> Entry
     }
 }
 
-fn read_deposit(table: &[u8], first: usize, n: usize) -> Entry
+fn read_deposit(table: &[u8], vmpl: u8, first: usize, n: usize) -> Entry
     requires { ⌜ first + n ≤ length (now table) ⌝ }
-    ensures { λ r. ⌜ r ≡ pooled (every (valid-at (now (table .entry))) (range first n)) first n ⌝ }
+    ensures { λ r. ⌜ r ≡ pooled (every (usable vmpl (table-alone (now (table .entry)))) (range first n)) first n ⌝ }
 {
     let found = covered::count_valid(table, first, n);
     if found != n {
@@ -111,10 +114,10 @@ fn read_deposit(table: &[u8], first: usize, n: usize) -> Entry
     }
 }
 
-// An entry of a call's list, whose own page is `list`.
-pub fn read(table: &[u8], call: ListCall, list: usize, e: u64) -> Entry
-    requires { ⌜ length (now table) ≤ 8192 ⌝ }
-    ensures { λ r. ⌜ r ≡ read-at call list e (now (table .entry)) ⌝ }
+// An entry of a call's list, whose own page is `list`, for a caller of this VMPL.
+pub fn read(table: &[u8], call: ListCall, vmpl: u8, list: usize, e: u64) -> Entry
+    requires { ⌜ length (now table) ≤ most-pages ⌝ }
+    ensures { λ r. ⌜ r ≡ read-at call vmpl list e (now (table .entry)) ⌝ }
 {
     if is_malformed(call, e) {
         return Entry::Unread(Code::Parameter);
@@ -128,12 +131,12 @@ pub fn read(table: &[u8], call: ListCall, list: usize, e: u64) -> Entry
     if n > table.len() - first {
         return Entry::Unread(Code::Address);
     }
-    let plain = covered::all_plain(table, first, n, list);
-    if !plain {
+    let coverable = covered::all_coverable(table, vmpl, first, n, list);
+    if !coverable {
         return Entry::Unread(Code::Address);
     }
     match call {
         ListCall::Pvalidate => read_pvalidate(table, e, first, n),
-        ListCall::Deposit => read_deposit(table, first, n),
+        ListCall::Deposit => read_deposit(table, vmpl, first, n),
     }
 }

@@ -1,6 +1,7 @@
 // A caller in Rattle: it lends its registers to `door::in_place::call` as one record, and finds them changed where they lie. It makes a machine of three
 // pages and asks a Query. `lent` is proved to give what the call gives; for the rest the program promises nothing, and what it writes is held to the file
 // stdout beside src. Nothing is assumed but what the C library's write does.
+ghost use Rattle.rules.specs.Flat.{buffers};
 ghost use Rattle.rules.specs.Promises.{Call-promise};
 use call::Called;
 use libc::STDOUT_FILENO;
@@ -33,12 +34,12 @@ fn lent(
 ) -> Called
     ensures { λ r. ⌜
         Call-promise caller
-        (record { registers = registers; machine = record { memory = now (memory .entry); table = now (table .entry); sheet = now (sheet .entry) } })
+        (record { registers = registers; machine = buffers (now (memory .entry)) (now (table .entry)) (now (sheet .entry)) })
         (record {
           answer = r .outcome;
           after = record {
             registers = r .registers;
-            machine = record { memory = now (memory .exit); table = now (table .exit); sheet = now (sheet .exit) };
+            machine = buffers (now (memory .exit)) (now (table .exit)) (now (sheet .exit));
           };
         }) ⌝ }
 {

@@ -9,6 +9,7 @@ pub mod Ranges
 pub mod Counts
 pub mod TableByte
 pub mod FlatSteps
+pub mod Usable
 pub mod Tested
 pub mod FlatLaunch
 pub mod Withdrawals

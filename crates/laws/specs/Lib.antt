@@ -1,3 +1,4 @@
 -- Definitions that are no sentence of document 01: contracts of inner functions cite them, and laws of proofs/ are about them.
+pub mod Alone
 pub mod Tested
 pub mod Revised

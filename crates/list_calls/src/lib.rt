@@ -4,12 +4,16 @@ ghost use Prim.Native.Nat.{_+_, min};
 ghost use Rattle.rules.specs.Words.{entries-a-call};
 ghost use Rattle.rules.specs.Answers.{Answered, entry-code};
 ghost use Rattle.rules.specs.Lists;
-ghost use Rattle.rules.specs.Flat.{Buffers, parted};
+ghost use Rattle.rules.specs.Flat.{buffers, parted};
 ghost use Rattle.laws.specs.Tested.{Tested};
 ghost use Rattle.list_calls.specs.Listed.{Listed};
+use pages::PAGE_SIZE;
+use pages::PAGE_SIZE_U64;
 use rules::Code;
 use rules::Entry;
 use rules::ListCall;
+
+pub const ENTRIES_A_CALL: usize = 32;
 
 // The code that an entry was refused with.
 fn refusal(entry: Entry) -> Code
@@ -35,19 +39,19 @@ fn stop(
     rcx: u64,
     k: usize,
 ) -> Code
-    requires { ⌜ Listed (record { memory = now memory; table = now table; sheet = now sheet }) caller rcx k ⌝ }
+    requires { ⌜ Listed (buffers (now memory) (now table) (now sheet)) caller rcx k ⌝ }
     ensures { λ r. ⌜
         Rattle.rules.specs.Lists.run call caller rcx 0 k
-        (parted (record { memory = now (memory .entry); table = now (table .entry); sheet = now (sheet .entry) }))
+        (parted (buffers (now (memory .entry)) (now (table .entry)) (now (sheet .entry))))
         ≡ record {
           answer = r;
-          after = parted (record { memory = now (memory .exit); table = now (table .entry); sheet = now (sheet .entry) });
+          after = parted (buffers (now (memory .exit)) (now (table .entry)) (now (sheet .entry)));
         } ⌝ }
 {
-    let page = (rcx / 4096) as usize;
-    let offset = (rcx % 4096) as usize;
-    let count = parts::number2(memory, 4096, page, offset) as usize;
-    parts::put_number2(memory, 4096, page, offset + 2, k as u16);
+    let page = (rcx / PAGE_SIZE_U64) as usize;
+    let offset = (rcx % PAGE_SIZE_U64) as usize;
+    let count = parts::number2(memory, PAGE_SIZE, page, offset) as usize;
+    parts::put_number2(memory, PAGE_SIZE, page, offset + 2, k as u16);
     if k < count {
         Code::Incomplete
     } else {
@@ -66,25 +70,25 @@ fn run(
     start: usize,
     budget: usize,
 ) -> Code
-    requires { ⌜ Listed (record { memory = now memory; table = now table; sheet = now sheet }) caller rcx (start + budget) ⌝ }
+    requires { ⌜ Listed (buffers (now memory) (now table) (now sheet)) caller rcx (start + budget) ⌝ }
     ensures { λ r. ⌜
         Rattle.rules.specs.Lists.run call caller rcx budget start
-        (parted (record { memory = now (memory .entry); table = now (table .entry); sheet = now (sheet .entry) }))
+        (parted (buffers (now (memory .entry)) (now (table .entry)) (now (sheet .entry))))
         ≡ record {
           answer = r;
-          after = parted (record { memory = now (memory .exit); table = now (table .exit); sheet = now (sheet .entry) });
+          after = parted (buffers (now (memory .exit)) (now (table .exit)) (now (sheet .entry)));
         } ⌝ }
 {
-    let page = (rcx / 4096) as usize;
-    let offset = (rcx % 4096) as usize;
+    let page = (rcx / PAGE_SIZE_U64) as usize;
+    let offset = (rcx % PAGE_SIZE_U64) as usize;
     let vmpl = parts::byte(sheet, sheet::RECORD_SIZE, caller, sheet::VMPL);
     let end = start + budget;
     let mut k = start;
     while k < end {
-        let e = parts::number8(memory, 4096, page, offset + 8 + 8 * k);
-        let entry = entries::reader::read(table, call, page, e);
+        let e = parts::number8(memory, PAGE_SIZE, page, offset + 8 + 8 * k);
+        let entry = entries::reader::read(table, call, vmpl, page, e);
         let Entry::Reads { first, count, wish } = entry else {
-            parts::put_number2(memory, 4096, page, offset + 2, k as u16);
+            parts::put_number2(memory, PAGE_SIZE, page, offset + 2, k as u16);
             return refusal(entry);
         };
         effects::carry_out_all(memory, table, wish, vmpl, first, count);
@@ -97,7 +101,11 @@ fn run(
 fn at_most(left: usize) -> usize
     ensures { λ r. ⌜ r ≡ min entries-a-call left ⌝ }
 {
-    if left < 32 { left } else { 32 }
+    if left < ENTRIES_A_CALL {
+        left
+    } else {
+        ENTRIES_A_CALL
+    }
 }
 
 // 1 Pvalidate, 4 Deposit.
@@ -109,13 +117,13 @@ pub fn list_call(
     caller: usize,
     rcx: u64,
 ) -> Code
-    requires { ⌜ Tested (record { memory = now memory; table = now table; sheet = now sheet }) caller ⌝ }
+    requires { ⌜ Tested (buffers (now memory) (now table) (now sheet)) caller ⌝ }
     ensures { λ r. ⌜
         Rattle.rules.specs.Lists.list-call entries-a-call call caller rcx
-        (parted (record { memory = now (memory .entry); table = now (table .entry); sheet = now (sheet .entry) }))
+        (parted (buffers (now (memory .entry)) (now (table .entry)) (now (sheet .entry))))
         ≡ record {
           answer = r;
-          after = parted (record { memory = now (memory .exit); table = now (table .exit); sheet = now (sheet .entry) });
+          after = parted (buffers (now (memory .exit)) (now (table .exit)) (now (sheet .entry)));
         } ⌝ }
 {
     if rcx % 8 != 0 {
@@ -125,16 +133,16 @@ pub fn list_call(
     if lists::bad_list_page(table, vmpl, rcx) {
         return Code::Address;
     }
-    let page = (rcx / 4096) as usize;
-    let offset = (rcx % 4096) as usize;
-    let count = parts::number2(memory, 4096, page, offset) as usize;
+    let page = (rcx / PAGE_SIZE_U64) as usize;
+    let offset = (rcx % PAGE_SIZE_U64) as usize;
+    let count = parts::number2(memory, PAGE_SIZE, page, offset) as usize;
     if count == 0 {
         return Code::Parameter;
     }
-    if offset + 8 + 8 * count > 4096 {
+    if offset + 8 + 8 * count > PAGE_SIZE {
         return Code::Parameter;
     }
-    let next = parts::number2(memory, 4096, page, offset + 2) as usize;
+    let next = parts::number2(memory, PAGE_SIZE, page, offset + 2) as usize;
     if next >= count {
         return Code::Parameter;
     }

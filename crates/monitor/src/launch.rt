@@ -5,7 +5,7 @@ ghost use lib.ListN.{length, getD};
 ghost use Rattle.rules.specs.Words.{page-size, record-size};
 ghost use Rattle.rules.specs.Answers.{Answered};
 ghost use Rattle.rules.specs.Launch.{in-monitor, out-of-range, areas-meet, launch-byte, launch-table, launch-sheet, made};
-ghost use Rattle.rules.specs.Flat.{Buffers, parts, parted};
+ghost use Rattle.rules.specs.Flat.{buffers, parts, parted};
 ghost use Rattle.rules.specs.Promises.{Launch-promise};
 ghost use Rattle.monitor.specs.Ready.{Ready};
 use rules::Launched;
@@ -103,8 +103,8 @@ fn make_sheet(memory: &[u8], sheet: &mut [u8], plan: Plan)
 fn make(memory: &mut [u8], table: &mut [u8], sheet: &mut [u8], plan: Plan)
     requires { ⌜ Ready plan (now memory) (now sheet) ⌝ }
     ensures { λ _. ⌜
-        parted (record { memory = now (memory .exit); table = now (table .exit); sheet = now (sheet .exit) })
-        ≡ made plan (parted (record { memory = now (memory .entry); table = now (table .entry); sheet = now (sheet .entry) })) .lent ⌝ }
+        parted (buffers (now (memory .exit)) (now (table .exit)) (now (sheet .exit)))
+        ≡ made plan (parted (buffers (now (memory .entry)) (now (table .entry)) (now (sheet .entry)))) .lent ⌝ }
 {
     make_sheet(memory, sheet, plan);
     make_table(table, plan);
@@ -121,10 +121,10 @@ pub fn launch(
     plan: Plan,
 ) -> Launched
     ensures { λ r. ⌜
-        Launch-promise n plan (record { memory = now (memory .entry); table = now (table .entry); sheet = now (sheet .entry) })
+        Launch-promise n plan (buffers (now (memory .entry)) (now (table .entry)) (now (sheet .entry)))
         (record {
           answer = r;
-          after = record { memory = now (memory .exit); table = now (table .exit); sheet = now (sheet .exit) };
+          after = buffers (now (memory .exit)) (now (table .exit)) (now (sheet .exit));
         }) ⌝ }
 {
     let fits = pages::memory::fits(table.len(), memory.len());

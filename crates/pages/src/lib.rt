@@ -1,8 +1,9 @@
-// Pages: the table byte, guest memory, the pool in the table, and the fields of a VMSA page. Each function is proved against a definition of `rules`.
-// Nothing is assumed.
+// Pages: the table byte, guest memory, the pool in the table, the test of a page, and the fields of a VMSA page. Each function is proved against a
+// definition of `rules`. Nothing is assumed.
 pub mod byte;
 pub mod memory;
 pub mod pool;
+pub mod usable;
 pub mod vmsa;
 
 pub const PAGE_SIZE: usize = 4096;

@@ -7,10 +7,12 @@ ghost use lib.ListN.{length};
 ghost use Rattle.rules.specs.Answers.{Answered};
 ghost use Rattle.rules.specs.Calls.{remap, remapped};
 ghost use Rattle.rules.specs.Machine.{plain, calling-area, owner, own};
-ghost use Rattle.rules.specs.Flat.{Buffers, parted};
+ghost use Rattle.rules.specs.Flat.{buffers, parted};
 ghost use Rattle.laws.specs.Revised.{revise};
 ghost use Rattle.laws.specs.Tested.{Tested};
 ghost use Rattle.remap_call.specs.Move.{Move};
+use pages::PAGE_SIZE;
+use pages::PAGE_SIZE_U64;
 use rules::Code;
 
 // The old page turns plain, the new one calling: one change of the table byte where they are the same.
@@ -37,11 +39,11 @@ fn move_all(
     old: usize,
     new: usize,
 )
-    requires { ⌜ Move (record { memory = now memory; table = now table; sheet = now sheet }) caller old new ⌝ }
+    requires { ⌜ Move (buffers (now memory) (now table) (now sheet)) caller old new ⌝ }
     ensures { λ _. ⌜
         remapped caller old new
-        (parted (record { memory = now (memory .entry); table = now (table .entry); sheet = now (sheet .entry) }))
-        ≡ parted (record { memory = now (memory .exit); table = now (table .exit); sheet = now (sheet .exit) }) ⌝ }
+        (parted (buffers (now (memory .entry)) (now (table .entry)) (now (sheet .entry))))
+        ≡ parted (buffers (now (memory .exit)) (now (table .exit)) (now (sheet .exit))) ⌝ }
 {
     move_area(table, old, new);
     parts::put_number4(
@@ -51,8 +53,8 @@ fn move_all(
         sheet::CALLING,
         new as u32,
     );
-    parts::put_byte(memory, 4096, old, 0, 0);
-    parts::put_byte(memory, 4096, new, 0, 0);
+    parts::put_byte(memory, PAGE_SIZE, old, 0, 0);
+    parts::put_byte(memory, PAGE_SIZE, new, 0, 0);
 }
 
 // The new page is neither plain nor the caller's own calling page.
@@ -66,30 +68,27 @@ fn is_foreign(b: u8, old: usize, new: usize) -> bool
 }
 
 pub fn remap(memory: &mut [u8], table: &mut [u8], sheet: &mut [u8], caller: usize, rcx: u64) -> Code
-    requires { ⌜ Tested (record { memory = now memory; table = now table; sheet = now sheet }) caller ⌝ }
+    requires { ⌜ Tested (buffers (now memory) (now table) (now sheet)) caller ⌝ }
     ensures { λ r. ⌜
         remap caller rcx
-        (parted (record { memory = now (memory .entry); table = now (table .entry); sheet = now (sheet .entry) }))
+        (parted (buffers (now (memory .entry)) (now (table .entry)) (now (sheet .entry))))
         ≡ record {
           answer = r;
-          after = parted (record { memory = now (memory .exit); table = now (table .exit); sheet = now (sheet .exit) });
+          after = parted (buffers (now (memory .exit)) (now (table .exit)) (now (sheet .exit)));
         } ⌝ }
 {
-    if rcx % 4096 != 0 {
+    if rcx % PAGE_SIZE_U64 != 0 {
         return Code::Parameter;
     }
-    let page = rcx / 4096;
-    if page >= table.len() as u64 {
+    let page = rcx / PAGE_SIZE_U64;
+    let vmpl = parts::byte(sheet, sheet::RECORD_SIZE, caller, sheet::VMPL);
+    let usable = pages::usable::is_usable(table, vmpl, page);
+    if !usable {
         return Code::Address;
     }
     let new = page as usize;
-    let b = table[new];
-    let valid = pages::byte::is_valid(b);
-    if !valid {
-        return Code::Address;
-    }
     let old = parts::number4(sheet, sheet::RECORD_SIZE, caller, sheet::CALLING) as usize;
-    if is_foreign(b, old, new) {
+    if is_foreign(table[new], old, new) {
         return Code::Address;
     }
     move_all(memory, table, sheet, caller, old, new);

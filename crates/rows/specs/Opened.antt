@@ -13,7 +13,7 @@ use Rattle.rules.specs.Sound.{pages-sized, sound}
 use Rattle.rules.specs.Lists.{bad-list-page, in-list, list-count, list-next, list-entry, store-index, bad-count, bad-next, entry-first, entry-pages}
 use Rattle.rules.specs.Lists.{covered, reserved-bits, malformed, coverable, read-covered, read-entry, wished, cleared, carry-out, carry-out-all}
 use Rattle.rules.specs.Lists.{after-entry, run, run-within, list-call}
-use Rattle.rules.specs.Calls.{remapped, remap, asked, unfit-pages, unfit-vcpu, free-record, is-free, free-page, any-free, new-record, created, create}
+use Rattle.rules.specs.Calls.{remapped, remap, asked, unfit-page, unfit-pages, unfit-vcpu, free-record, is-free, free-page, any-free, new-record, created, create}
 use Rattle.rules.specs.Calls.{clear-svme, deleted, named-by, delete, withdrawn-pages, give-back, gpas, withdrawn, withdraw, query, configure, vtom}
 use Rattle.rules.specs.Call.{with-rax, with-rcx, bad-sheet, bad-machine, pending, no-call, protocol, call-number, on-lent, on-rcx, dispatch, handle}
 use Rattle.rules.specs.Call.{clear-pending, set-flag, finish, call}
@@ -50,7 +50,7 @@ unfolding bad-list-page in-list list-count list-next list-entry store-index bad-
 open-lists = 0
 
 unfoldable pub open-calls : ℕ
-unfolding remapped remap asked unfit-pages unfit-vcpu free-record is-free free-page any-free new-record created create clear-svme deleted named-by delete withdrawn-pages give-back gpas withdrawn withdraw query configure vtom
+unfolding remapped remap asked unfit-page unfit-pages unfit-vcpu free-record is-free free-page any-free new-record created create clear-svme deleted named-by delete withdrawn-pages give-back gpas withdrawn withdraw query configure vtom
 open-calls = 0
 
 unfoldable pub open-call : ℕ

@@ -39,9 +39,12 @@ asked caller rcx rdx r8 m =
     record { caller-vmpl = vcpu m caller .vmpl; vmsa = page-of rcx; calling = page-of rdx; apic = bits 31 0 r8 }
 
 -- "Either page not below N, not valid, not plain, or both the same"
+unfoldable pub unfit-page : ℕ → Lent → ℕ → Bool
+unfit-page vmpl m p = not (usable vmpl m p) || not (owned-by plain m p)
+
 unfoldable pub unfit-pages : Asked → Lent → Bool
 unfit-pages a m =
-    let unfit : ℕ → Bool = λ p. not (usable (a .caller-vmpl) m p) || not (owned-by plain m p) in
+    let unfit : ℕ → Bool = unfit-page (a .caller-vmpl) m in
     unfit (a .vmsa) || unfit (a .calling) || eqb (a .vmsa) (a .calling)
 
 -- "VMSA's VMPL 0, above 3, or below the caller's; EFER bit 12 clear; features unlike record 0's; APIC ID of a live record (house)"

@@ -3,7 +3,7 @@
 use Rattle.rules.specs.Words.{ℕ, zero, suc, _*_, _/_, Bool, not, _&&_, List, [], _∷_, _++_, eqb, length, take, drop, page-size, least-pages}
 use Rattle.rules.specs.Words.{most-pages, records, record-size, registers-size, between, little, number}
 use Rattle.rules.specs.Answers.{Registers, Plan, Outcome, BadMachine, Launched, WrongSize, Verdict, Refused, Answered, refuse}
-use Rattle.rules.specs.Machine.{Lent, Machine}
+use Rattle.rules.specs.Machine.{Lent, Machine, machine-of}
 use Rattle.rules.specs.Launch.{launch}
 use Rattle.rules.specs.Steps.{store, mark}
 use Rattle.rules.specs.Sound.{sound}
@@ -26,6 +26,9 @@ pub record Buffers : Type 0 where
   pub memory : List ℕ
   pub table : List ℕ
   pub sheet : List ℕ
+
+abbrev pub buffers : List ℕ → List ℕ → List ℕ → Buffers
+buffers memory table sheet = record { memory = memory; table = table; sheet = sheet }
 
 unfoldable pub parted : Buffers → Lent
 parted b = record { memory = parts page-size (b .memory); table = b .table; sheet = parts record-size (b .sheet) }
@@ -53,7 +56,7 @@ sound-bytes b = well-sized b && sound (parted b)
 -- launch: "1 a size wrong", the given N among them
 unfoldable pub launch-bytes : ℕ → Plan → Buffers → Answered Launched Buffers
 launch-bytes n plan b =
-    let l : Answered Launched Machine = launch plan (record { lent = parted b }) in
+    let l : Answered Launched Machine = launch plan (machine-of (parted b)) in
     refuse b (not (well-sized b && eqb n (length (b .table)))) WrongSize
     (record { answer = l .answer; after = joined (l .after .lent) })
 
@@ -61,19 +64,19 @@ launch-bytes n plan b =
 -- change"
 unfoldable pub store-bytes : ℕ → ℕ → ℕ → List ℕ → List ℕ → List ℕ → Answered Verdict (List ℕ)
 store-bytes c p offset bytes table memory =
-    let s : Answered Verdict Lent = store c p offset bytes (parted (record { memory = memory; table = table; sheet = [] })) in
+    let s : Answered Verdict Lent = store c p offset bytes (parted (buffers memory table [])) in
     refuse memory (not (memory-sized table memory)) Refused (record { answer = s .answer; after = join (s .after .memory) })
 
 unfoldable pub mark-bytes : ℕ → ℕ → List ℕ → Answered Verdict (List ℕ)
 mark-bytes i value sheet =
-    let s : Answered Verdict Lent = mark i value (parted (record { memory = []; table = []; sheet = sheet })) in
+    let s : Answered Verdict Lent = mark i value (parted (buffers [] [] sheet)) in
     refuse sheet (not (sheet-sized sheet)) Refused (record { answer = s .answer; after = join (s .after .sheet) })
 
 -- the call, with the registers as one record
 unfoldable pub call-bytes : ℕ → Posed Registers Buffers → Answered Outcome (Posed Registers Buffers)
 call-bytes caller s =
     let a : Answered Outcome (Posed Registers Machine) =
-    call caller (record { registers = s .registers; machine = record { lent = parted (s .machine) } }) in
+    call caller (record { registers = s .registers; machine = machine-of (parted (s .machine)) }) in
     refuse s (not (well-sized (s .machine))) BadMachine
     (record { answer = a .answer; after = record { registers = a .after .registers; machine = joined (a .after .machine .lent) } })
 

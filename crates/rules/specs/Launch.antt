@@ -2,7 +2,7 @@
 use Rattle.rules.specs.Words.{ℕ, _+_, _-_, Bool, cond, not, _&&_, _||_, List, [], _∷_, map, leb, ltb, eqb, replicate, records, record-size}
 use Rattle.rules.specs.Words.{between, bit, range}
 use Rattle.rules.specs.Answers.{Plan, Launched, Made, OutOfRange, AreasMeet, UnfitVmsa, Answered, refuse}
-use Rattle.rules.specs.Machine.{Lent, Machine, N, page-at, write, zeros, laid-out, vmsa-vmpl, vmsa-features, efer}
+use Rattle.rules.specs.Machine.{Lent, Machine, machine-of, N, page-at, write, zeros, laid-out, vmsa-vmpl, vmsa-features, efer}
 
 unfoldable pub in-monitor : Plan → ℕ → Bool
 in-monitor plan p = leb (plan .first) p && ltb p (plan .first + plan .count)
@@ -55,7 +55,7 @@ launch-sheet plan page = launch-record plan page ∷ replicate (records - 1) (ze
 unfoldable pub made : Plan → Lent → Machine
 made plan m =
     let sheet : List (List ℕ) = launch-sheet plan (page-at m (plan .vmsa)) in
-    record { lent = write (plan .calling) 0 (0 ∷ 0 ∷ []) (record { memory = m .memory; table = launch-table plan (N m); sheet = sheet }) }
+    machine-of (write (plan .calling) 0 (0 ∷ 0 ∷ []) (record { memory = m .memory; table = launch-table plan (N m); sheet = sheet }))
 
 -- "Lowest number wins; unless 0, nothing changes." Answer 1, a size wrong, is given by Flat
 unfoldable pub launch : Plan → Machine → Answered Launched Machine

@@ -56,28 +56,28 @@ unfoldable pub malformed : ListCall → ℕ → Bool
 malformed call e =
     ltb 1 (bits 1 0 e) || not (eqb (reserved-bits call e) 0) || eqb (bits 1 0 e) 1 && not (multiple large (entry-first e))
 
--- "Any covered page not below N, not plain, or holding this list", whoever calls
+-- "Any covered page not below N, not plain, or holding this list", whatever the caller's VMPL
 unfoldable pub coverable : ℕ → ℕ → Lent → ℕ → Bool
-coverable caller rcx m p = below m p && owned-by plain m p && not (eqb p (page-of rcx))
+coverable vmpl rcx m p = below m p && owned-by plain m p && not (eqb p (page-of rcx))
 
 -- "bit 2 is the wished validity, bit 3 ignores "no change". Covered pages not all of equal validity: 0x80001006. Already as wished and
 -- bit 3 clear: 0x80001010"; "Deposit: a covered page not valid: ADDRESS"
 unfoldable pub read-covered : ListCall → ℕ → ℕ → Lent → Entry
-read-covered Pvalidate caller e m =
+read-covered Pvalidate vmpl e m =
     let valid-all : Bool = every (λ p. valid (table-byte m p)) (covered e) in
     let valid-none : Bool = every (λ p. not (valid (table-byte m p))) (covered e) in
     cond (not valid-all && not valid-none) (Unread SizeMismatch)
     (cond (cond (bit 2 e) valid-all valid-none && not (bit 3 e)) (Unread NoChange)
     (Reads (entry-first e) (entry-pages e) (cond (bit 2 e) Valid Invalid)))
-read-covered Deposit caller e m =
-    cond (not (every (usable (vcpu m caller .vmpl) m) (covered e))) (Unread Address) (Reads (entry-first e) (entry-pages e) Pool)
+read-covered Deposit vmpl e m =
+    cond (not (every (usable vmpl m) (covered e))) (Unread Address) (Reads (entry-first e) (entry-pages e) Pool)
 
 -- "An entry either reads cleanly into its range and wishes or is refused on the spot"
 unfoldable pub read-entry : ListCall → ℕ → ℕ → ℕ → Lent → Entry
-read-entry call caller rcx e m =
+read-entry call vmpl rcx e m =
     cond (malformed call e) (Unread Parameter)
-    (cond (not (every (coverable caller rcx m) (covered e))) (Unread Address)
-    (read-covered call caller e m))
+    (cond (not (every (coverable vmpl rcx m) (covered e))) (Unread Address)
+    (read-covered call vmpl e m))
 
 -- "wish 0: revoke, make invalid. Wish 1: make valid, .. grant the caller's VMPL, also when bit 3 excused no change"; "Deposit: .. revoke;
 -- pool free": a page's table byte
@@ -108,7 +108,7 @@ after-entry (Unread code) caller rcx k go-on m = record { answer = code; after =
 unfoldable pub run : ListCall → ℕ → ℕ → ℕ → ℕ → Lent → Answered Code Lent
 run call caller rcx zero k m = record { answer = cond (ltb k (list-count rcx m)) Incomplete Success; after = store-index k rcx m }
 run call caller rcx (suc todo) k m =
-    after-entry (read-entry call caller rcx (list-entry k rcx m) m) caller rcx k (run call caller rcx todo (suc k)) m
+    after-entry (read-entry call (vcpu m caller .vmpl) rcx (list-entry k rcx m) m) caller rcx k (run call caller rcx todo (suc k)) m
 
 -- a budget of entries, "done from next"
 unfoldable pub run-within : ℕ → ListCall → ℕ → ℕ → Lent → Answered Code Lent

@@ -15,6 +15,9 @@ pub record Lent : Type 0 where
 pub record Machine : Type 0 where
   pub lent : Lent
 
+abbrev pub machine-of : Lent → Machine
+machine-of lent = record { lent = lent }
+
 unfoldable pub with-lent : Lent → Machine → Machine
 with-lent lent m = record { lent = lent }
 

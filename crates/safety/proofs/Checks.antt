@@ -22,9 +22,10 @@ use Rattle.rules.specs.Machine.{with-memory, write, grant, own, fields, is-live
 use Rattle.rules.specs.Launch.{out-of-range, areas-meet, unfit-vmsa, made, launch}
 use Rattle.rules.specs.Sound.{bad-record}
 use Rattle.rules.specs.Lists.{bad-list-page, bad-count, bad-next, run-within, list-call}
-use Rattle.rules.specs.Calls.{remapped, remap, Asked, asked, unfit-pages, unfit-vcpu, free-record, is-free, free-page, any-free, created, create}
+use Rattle.rules.specs.Calls.{remapped, remap, Asked, asked, unfit-page, unfit-pages, unfit-vcpu, free-record, is-free, free-page, any-free, created, create}
 use Rattle.rules.specs.Calls.{deleted, named-by, delete, withdrawn-pages, give-back, withdrawn, withdraw}
 use Rattle.rules.specs.Call.{bad-sheet, bad-machine}
+use Rattle.laws.proofs.Usable.{usable→}
 use Rattle.laws.proofs.Ranges.{by-test, lowest-passes, exists-lowest, every-take, places-read, Rising, rising-take, rising-places, or-false}
 use Rattle.safety.proofs.Small.{and-false→, one-holds, among}
 use Rattle.laws.proofs.Counts.{table-byte-each, table-byte-each-other}
@@ -52,14 +53,7 @@ caller-of caller m e =
 
 -- ---- a page
 
--- one that passes is below N and valid
-usable→ : (c : ℕ) (m : Lent) (p : ℕ) → usable c m p ≡ true → (p < N m) × (valid (table-byte m p) ≡ true)
-unfolding usable below
-usable→ c m p e =
-    let both = and-eq-true-iff (ltb p (N m)) (valid (table-byte m p)) .0 e in
-    (ltb-true _ _ (both .0), both .1)
-
--- and one of an owner has it
+-- one of an owner has it
 owned-by→ : (o : ℕ) (m : Lent) (p : ℕ) → owned-by o m p ≡ true → owner (table-byte m p) ≡ o
 unfolding owned-by
 owned-by→ o m p e = eqb-true _ _ e
@@ -70,7 +64,8 @@ pub record Plain-page (m : Lent) (p : ℕ) : Type 0 where
   pub validated : valid (table-byte m p) ≡ true
   pub owned : owner (table-byte m p) ≡ 0
 
-plain-page : (c : ℕ) (m : Lent) (p : ℕ) → (not (usable c m p) || not (owned-by 0 m p)) ≡ false → Plain-page m p
+plain-page : (c : ℕ) (m : Lent) (p : ℕ) → unfit-page c m p ≡ false → Plain-page m p
+unfolding unfit-page
 plain-page c m p e =
     let both = or-false (not (usable c m p)) (not (owned-by 0 m p)) e in
     let page = usable→ c m p (not-false _ (both .0)) in
@@ -245,7 +240,7 @@ module _ (caller rcx rdx r8 : ℕ) (m : Lent) where
       let v = page-of rcx in
       let c = page-of rdx in
       let mine = vcpu m caller .vmpl in
-      let unfit : ℕ → Bool = λ p. not (usable mine m p) || not (owned-by 0 m p) in
+      let unfit = unfit-page mine m in
       let both = or-false (unfit v || unfit c) (eqb v c) pages in
       let each = or-false (unfit v) (unfit c) (both .0) in
       let page = page-at m v in

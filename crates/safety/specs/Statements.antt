@@ -213,7 +213,7 @@ Passed-and-no-more = Of-every-call Passed-law
 -- and of one entry with wish 1 and bit 3 clear: (a) if it is carried out, every covered page was invalid
 unfoldable pub Validated-once : Type 0
 Validated-once =
-    (caller rcx e first n : ℕ) (wish : Wish) (m : Lent) → bit 2 e ≡ true → bit 3 e ≡ false → read-entry Pvalidate caller rcx e m ≡ Reads first n wish
+    (vmpl rcx e first n : ℕ) (wish : Wish) (m : Lent) → bit 2 e ≡ true → bit 3 e ≡ false → read-entry Pvalidate vmpl rcx e m ≡ Reads first n wish
     → covers-valid e m ≡ false
 
 -- (b) if it covers a valid page it is refused, and itself changes no table byte and no memory but the index
@@ -226,12 +226,12 @@ Second-validation-refused =
 -- (c) any entry with wish 1 that is carried out, bit 3 or not, leaves its pages zero; and what "carried out" is in a run
 unfoldable pub Validated-pages-zero : Type 0
 Validated-pages-zero =
-    (caller rcx e first n : ℕ) (wish : Wish) (m : Lent) → bit 2 e ≡ true → read-entry Pvalidate caller rcx e m ≡ Reads first n wish
-    → (p k : ℕ) → covers e p ≡ true → getD (page-at (carry-out-all wish (vcpu m caller .vmpl) first n m) p) k 0 ≡ 0
+    (vmpl rcx e first n : ℕ) (wish : Wish) (m : Lent) → bit 2 e ≡ true → read-entry Pvalidate vmpl rcx e m ≡ Reads first n wish
+    → (p k : ℕ) → covers e p ≡ true → getD (page-at (carry-out-all wish vmpl first n m) p) k 0 ≡ 0
 
 unfoldable pub Carried-out : Type 0
 Carried-out =
-    (call : ListCall) (caller rcx todo k first n : ℕ) (wish : Wish) (m : Lent) → read-entry call caller rcx (list-entry k rcx m) m ≡ Reads first n wish
+    (call : ListCall) (caller rcx todo k first n : ℕ) (wish : Wish) (m : Lent) → read-entry call (vcpu m caller .vmpl) rcx (list-entry k rcx m) m ≡ Reads first n wish
     → run call caller rcx (suc todo) k m ≡ run call caller rcx todo (suc k) (carry-out-all wish (vcpu m caller .vmpl) first n m)
 
 -- 10. Confined: a call by VMPL c gives no page a permission above c, makes no vCPU of a VMPL below c, by its record or by its VMSA, and deletes none

@@ -189,7 +189,7 @@ pub record At-entry (call : ListCall) (caller : ℕ) (g : Registers) (m : Lent) 
   pub before : Lent
   pub earlier : run-within (entry - list-next (g .rcx) m) call caller (g .rcx) m ≡ record { answer = Incomplete; after = before }
   pub code : Code
-  pub unread : read-entry call caller (g .rcx) (list-entry entry (g .rcx) m) before ≡ Unread code
+  pub unread : read-entry call (vcpu before caller .vmpl) (g .rcx) (list-entry entry (g .rcx) m) before ≡ Unread code
   pub told : after .registers .rax ≡ code-number code
   pub reached : after .machine .lent ≡ last-writes caller before
 

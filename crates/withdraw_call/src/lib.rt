@@ -6,9 +6,11 @@ ghost use lib.ListN.{length, getD, take};
 ghost use Rattle.rules.specs.Words.{places};
 ghost use Rattle.rules.specs.Answers.{Answered};
 ghost use Rattle.rules.specs.Calls.{is-free};
-ghost use Rattle.rules.specs.Flat.{Buffers, parted};
+ghost use Rattle.rules.specs.Flat.{buffers, parted};
 ghost use Rattle.laws.specs.Tested.{Tested};
 ghost use Rattle.withdraw_call.specs.Given.{Room, Given};
+use pages::PAGE_SIZE;
+use pages::PAGE_SIZE_U64;
 use rules::Code;
 
 // Page p, if it is a free one: its gPA put at the place `at` of the list's page, and its byte plain and granted. How many were given: 1 or 0.
@@ -30,7 +32,7 @@ fn give_back(
     if !free {
         return 0;
     }
-    parts::put_number8(memory, 4096, page, at, 4096 * p as u64);
+    parts::put_number8(memory, PAGE_SIZE, page, at, PAGE_SIZE_U64 * p as u64);
     table[p] = pages::byte::granted(vmpl, pages::byte::owned(0, b));
     1
 }
@@ -63,29 +65,29 @@ fn give_pages(
 
 // 5 Withdraw.
 pub fn withdraw(memory: &mut [u8], table: &mut [u8], sheet: &[u8], caller: usize, rcx: u64) -> Code
-    requires { ⌜ Tested (record { memory = now memory; table = now table; sheet = now sheet }) caller ⌝ }
+    requires { ⌜ Tested (buffers (now memory) (now table) (now sheet)) caller ⌝ }
     ensures { λ r. ⌜
         Rattle.rules.specs.Calls.withdraw caller rcx
-        (parted (record { memory = now (memory .entry); table = now (table .entry); sheet = now (sheet .entry) }))
+        (parted (buffers (now (memory .entry)) (now (table .entry)) (now (sheet .entry))))
         ≡ record {
           answer = r;
-          after = parted (record { memory = now (memory .exit); table = now (table .exit); sheet = now (sheet .entry) });
+          after = parted (buffers (now (memory .exit)) (now (table .exit)) (now (sheet .entry)));
         } ⌝ }
 {
     if rcx % 8 != 0 {
         return Code::Parameter;
     }
-    if rcx % 4096 == 0xFF8 {
+    if rcx % PAGE_SIZE_U64 == 0xFF8 {
         return Code::Parameter;
     }
     let vmpl = parts::byte(sheet, sheet::RECORD_SIZE, caller, sheet::VMPL);
     if lists::bad_list_page(table, vmpl, rcx) {
         return Code::Address;
     }
-    let page = (rcx / 4096) as usize;
-    let offset = (rcx % 4096) as usize;
-    let room = (4096 - offset - 8) / 8;
+    let page = (rcx / PAGE_SIZE_U64) as usize;
+    let offset = (rcx % PAGE_SIZE_U64) as usize;
+    let room = (PAGE_SIZE - offset - 8) / 8;
     let taken = give_pages(memory, table, page, offset + 8, room, vmpl);
-    parts::put_number2(memory, 4096, page, offset, taken as u16);
+    parts::put_number2(memory, PAGE_SIZE, page, offset, taken as u16);
     Code::Success
 }

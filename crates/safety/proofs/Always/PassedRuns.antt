@@ -34,12 +34,11 @@ uncovered-more from k p rcx m none last j low up =
     by-test (eqb j k) (λ t. rw (eqb-true j k t) last) (λ t. none j low (omega (arith, eqb-false j k t)))
 
 -- an entry that is carried out leaves a page that it does not cover
-pub uncovered-left : (call : ListCall) (caller rcx e first n : ℕ) (wish : Wish) (m : Lent) → read-entry call caller rcx e m ≡ Reads first n wish
-    → (p : ℕ) → covers e p ≡ false → Untouched p m (carry-out-all wish (vcpu m caller .vmpl) first n m)
+pub uncovered-left : (call : ListCall) (vmpl rcx e first n : ℕ) (wish : Wish) (m : Lent) → read-entry call vmpl rcx e m ≡ Reads first n wish
+    → (p : ℕ) → covers e p ≡ false → Untouched p m (carry-out-all wish vmpl first n m)
 unfolding carry-out-all
-uncovered-left call caller rcx e first n wish m reads p away =
-    let told = entry-read call caller rcx e first n wish m reads in
-    let vmpl = vcpu m caller .vmpl in
+uncovered-left call vmpl rcx e first n wish m reads p away =
+    let told = entry-read call vmpl rcx e first n wish m reads in
     each-elsewhere (carry-out wish vmpl) p (carry-elsewhere wish vmpl p) (range first n) m
     (sym (covers-range told p) ∙ away)
 
@@ -94,19 +93,19 @@ module _ (call : ListCall) (caller rcx p : ℕ) (m : Lent) (there : page-of rcx 
 
   -- an entry is passed
   come-on : (k first n : ℕ) (wish : Wish) (now : Lent) → list-next rcx m ≤ k → At rcx p m k now
-      → read-entry call caller rcx (list-entry k rcx now) now ≡ Reads first n wish → At rcx p m (suc k) (carry-out-all wish (vcpu now caller .vmpl) first n now)
+      → read-entry call (vcpu now caller .vmpl) rcx (list-entry k rcx now) now ≡ Reads first n wish → At rcx p m (suc k) (carry-out-all wish (vcpu now caller .vmpl) first n now)
   unfolding Uncovered
   come-on k first n wish now low h reads =
       record {
-        list = list-kept call caller rcx (list-entry k rcx now) first n wish now reads ∙ h .list;
+        list = list-kept call _ rcx (list-entry k rcx now) first n wish now reads ∙ h .list;
         pages = entry-length wish (vcpu now caller .vmpl) first n now ∙ h .pages;
-        entries = λ j. entry-kept call caller rcx (list-entry k rcx now) first n wish now reads j ∙ h .entries j;
+        entries = λ j. entry-kept call _ rcx (list-entry k rcx now) first n wish now reads j ∙ h .entries j;
         left = λ none.
             untouched-twice (h .left (λ j from up. none j from (omega arith)))
-            (uncovered-left call caller rcx (list-entry k rcx now) first n wish now reads p (rw (h .entries k) (none k low (omega arith))));
+            (uncovered-left call _ rcx (list-entry k rcx now) first n wish now reads p (rw (h .entries k) (none k low (omega arith))));
       }
 
-  entry-told : (x : Entry) (k last : ℕ) (go-on : Lent → Answered Code Lent) (now : Lent) → read-entry call caller rcx (list-entry k rcx now) now ≡ x
+  entry-told : (x : Entry) (k last : ℕ) (go-on : Lent → Answered Code Lent) (now : Lent) → read-entry call (vcpu now caller .vmpl) rcx (list-entry k rcx now) now ≡ x
       → ((then : Lent) → At rcx p m (suc k) then → Told rcx p m last (go-on then .after))
       → list-next rcx m ≤ k → At rcx p m k now → k ≤ last → last < 65536 → Told rcx p m last (after-entry x caller rcx k go-on now .after)
   unfolding after-entry
@@ -119,5 +118,5 @@ module _ (call : ListCall) (caller rcx p : ℕ) (m : Lent) (there : page-of rcx 
   unfolding run
   run-told zero k last now low h up few = stopped k last _ now h (omega arith) few (omega arith)
   run-told (suc todo) k last now low h up few =
-      entry-told (read-entry call caller rcx (list-entry k rcx now) now) k last (run call caller rcx todo (suc k)) now refl
+      entry-told (read-entry call (vcpu now caller .vmpl) rcx (list-entry k rcx now) now) k last (run call caller rcx todo (suc k)) now refl
       (λ then g. run-told todo (suc k) last then (omega arith) g (omega arith) few) low h (omega arith) few

@@ -44,11 +44,11 @@ record Stopped (call : ListCall) (caller rcx todo k : ℕ) (m : Lent) (a : Answe
   before : Lent
   earlier : run call caller rcx (entry - k) k m ≡ record { answer = Incomplete; after = before }
   code : Code
-  unread : read-entry call caller rcx (list-entry entry rcx m) before ≡ Unread code
+  unread : read-entry call (vcpu before caller .vmpl) rcx (list-entry entry rcx m) before ≡ Unread code
   told : a .answer ≡ code
   reached : a .after ≡ before
 
-stopped-later : (x : Entry) (call : ListCall) (caller rcx todo k : ℕ) (m : Lent) → read-entry call caller rcx (list-entry k rcx m) m ≡ x
+stopped-later : (x : Entry) (call : ListCall) (caller rcx todo k : ℕ) (m : Lent) → read-entry call (vcpu m caller .vmpl) rcx (list-entry k rcx m) m ≡ x
     → suc (k + todo) ≤ list-count rcx m
     → ((now : Lent) → suc k + todo ≤ list-count rcx now → refuses (run call caller rcx todo (suc k) now .answer) ≡ true
     → Stopped call caller rcx todo (suc k) now (run call caller rcx todo (suc k) now))
@@ -57,7 +57,7 @@ stopped-later : (x : Entry) (call : ListCall) (caller rcx todo k : ℕ) (m : Len
 unfolding run after-entry
 stopped-later (Reads first n wish) call caller rcx todo k m e b later h =
     let now : Lent = carry-out-all wish (vcpu m caller .vmpl) first n m in
-    let count = count-kept call caller rcx (list-entry k rcx m) first n wish m e in
+    let count = count-kept call _ rcx (list-entry k rcx m) first n wish m e in
     let s = later now (omega (arith, count)) h in
     let same : s .entry - k ≡ suc (s .entry - suc k) = omega (arith, s .from) in
     record {
@@ -68,7 +68,7 @@ stopped-later (Reads first n wish) call caller rcx todo k m e b later h =
       before = s .before;
       earlier = rw (same, e) (s .earlier);
       code = s .code;
-      unread = rw (entry-kept call caller rcx (list-entry k rcx m) first n wish m e (s .entry)) at (s .unread);
+      unread = rw (entry-kept call _ rcx (list-entry k rcx m) first n wish m e (s .entry)) at (s .unread);
       told = s .told;
       reached = s .reached;
     }
@@ -94,7 +94,7 @@ unfolding run refuses code-number
 run-stopped call caller rcx zero k m b h =
     by-test (ltb k (list-count rcx m)) (λ t. absurd (true≢false (sym (rw t at h)))) (λ t. absurd (true≢false (sym (rw t at h))))
 run-stopped call caller rcx (suc todo) k m b h =
-    stopped-later (read-entry call caller rcx (list-entry k rcx m) m) call caller rcx todo k m refl (omega arith)
+    stopped-later (read-entry call (vcpu m caller .vmpl) rcx (list-entry k rcx m) m) call caller rcx todo k m refl (omega arith)
     (λ now c. run-stopped call caller rcx todo (suc k) now (omega arith)) h
 
 -- ---- each call, before the last writes

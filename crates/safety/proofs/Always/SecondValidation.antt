@@ -36,7 +36,7 @@ covers-listed e p =
     (λ t. t ∙ sym (not-among test p (range first n) (→every-range test first n (λ q l h. rw (le-leb first q l, lt-ltb q (first + n) h))) t))
 
 -- once it is read, those of the range that it told
-pub covers-range : {call : ListCall} {caller rcx e first n : ℕ} {wish : Wish} {m : Lent} → Read call caller rcx e first n wish m
+pub covers-range : {call : ListCall} {vmpl rcx e first n : ℕ} {wish : Wish} {m : Lent} → Read call vmpl rcx e first n wish m
     → (p : ℕ) → covers e p ≡ exists (eqb p) (range first n)
 unfolding covered
 covers-range {e} told p = rw (told .starts, told .many) at (covers-listed e p)
@@ -44,10 +44,10 @@ covers-range {e} told p = rw (told .starts, told .many) at (covers-listed e p)
 -- (a) an entry that validates covered no valid page
 pub validated-once : Validated-once
 unfolding Validated-once covers-valid read-covered
-validated-once caller rcx e first n wish m two three h =
+validated-once vmpl rcx e first n wish m two three h =
     let all = every (λ p. valid (table-byte m p)) (covered e) in
     let some = exists (λ p. valid (table-byte m p)) (covered e) in
-    let g = rw (two, three, every-not-exists (λ p. valid (table-byte m p)) (covered e)) at (covered-read Pvalidate caller rcx e first n wish m h) in
+    let g = rw (two, three, every-not-exists (λ p. valid (table-byte m p)) (covered e)) at (covered-read Pvalidate vmpl rcx e first n wish m h) in
     by-test some
     (λ t. by-test all (λ u. unread _ first n wish (rw (t, u) at g)) (λ u. unread _ first n wish (rw (t, u) at g)))
     (λ t. t)
@@ -60,7 +60,7 @@ second-validation-refused caller rcx todo k m two three some =
     let all = every (λ p. valid (table-byte m p)) (covered e) in
     by-test (malformed Pvalidate e)
     (λ t. rw t)
-    (λ t. by-test (every (coverable caller rcx m) (covered e))
+    (λ t. by-test (every (coverable (vcpu m caller .vmpl) rcx m) (covered e))
     (λ u. by-test all
     (λ v. rw (t, u, v, two, three))
     (λ v. rw (t, u, every-not-exists (λ p. valid (table-byte m p)) (covered e), v, some)))
@@ -105,10 +105,10 @@ all-filled vmpl p (q ∷ qs) m h =
 -- (c) the pages that an entry validates are zero
 pub validated-pages-zero : Validated-pages-zero
 unfolding Validated-pages-zero page-at carry-out-all Zero wish-of
-validated-pages-zero caller rcx e first n wish m two h p k covering =
-    let told = entry-read Pvalidate caller rcx e first n wish m h in
+validated-pages-zero vmpl rcx e first n wish m two h p k covering =
+    let told = entry-read Pvalidate vmpl rcx e first n wish m h in
     let valid-wish : wish ≡ Valid = sym (told .wishes) ∙ rw two in
-    rw valid-wish (all-filled (vcpu m caller .vmpl) p (range first n) m (sym (covers-range told p) ∙ covering) k)
+    rw valid-wish (all-filled vmpl p (range first n) m (sym (covers-range told p) ∙ covering) k)
 
 -- an entry that reads is carried out, and the run goes on
 pub carried-out : Carried-out

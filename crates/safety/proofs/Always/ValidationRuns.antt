@@ -76,25 +76,24 @@ wished-valid : (vmpl b : ℕ) → valid (wished Valid vmpl b) ≡ true
 unfolding wished
 wished-valid vmpl b = simp byte·simp
 
-module _ (caller rcx e first n : ℕ) (wish : Wish) (m : Lent) (reads : read-entry Pvalidate caller rcx e m ≡ Reads first n wish) (p : ℕ)
+module _ (vmpl rcx e first n : ℕ) (wish : Wish) (m : Lent) (reads : read-entry Pvalidate vmpl rcx e m ≡ Reads first n wish) (p : ℕ)
     (two : bit 2 e ≡ true) (covering : covers e p ≡ true) where
   listed : exists (eqb p) (range first n) ≡ true
-  listed = sym (covers-range (entry-read Pvalidate caller rcx e first n wish m reads) p) ∙ covering
+  listed = sym (covers-range (entry-read Pvalidate vmpl rcx e first n wish m reads) p) ∙ covering
 
   inside : p < N m
   unfolding coverable below
   inside =
-      let told = entry-read Pvalidate caller rcx e first n wish m reads in
+      let told = entry-read Pvalidate vmpl rcx e first n wish m reads in
       by-test (ltb p (N m)) (ltb-true p (N m))
-      (λ t. absurd (true≢false (sym (rw t at (among (coverable caller rcx m) p (range first n) (told .passed) listed)))))
+      (λ t. absurd (true≢false (sym (rw t at (among (coverable vmpl rcx m) p (range first n) (told .passed) listed)))))
 
   -- an entry with wish 1 makes the pages that it covers valid
-  validated : valid (table-byte (carry-out-all wish (vcpu m caller .vmpl) first n m) p) ≡ true
+  validated : valid (table-byte (carry-out-all wish vmpl first n m) p) ≡ true
   unfolding carry-out-all wish-of N
   validated =
-      let told = entry-read Pvalidate caller rcx e first n wish m reads in
+      let told = entry-read Pvalidate vmpl rcx e first n wish m reads in
       let wishes : wish ≡ Valid = sym (told .wishes) ∙ rw two in
-      let vmpl = vcpu m caller .vmpl in
       rw (wishes, table-byte-each (wished Valid vmpl) (carry-out Valid vmpl) (carry-out-table Valid vmpl) (rising-range first n) m p listed inside)
       (wished-valid vmpl (table-byte m p))
 
@@ -104,7 +103,7 @@ module _ (caller rcx e first n : ℕ) (wish : Wish) (m : Lent) (reads : read-ent
   excused-by-bit was =
       by-test (bit 3 e) (λ t. t) (λ t.
       let test : ℕ → Bool = λ q. valid (table-byte m q) in
-      let none = every-not-exists test (covered e) ∙ ap not (validated-once caller rcx e first n wish m two t reads) in
+      let none = every-not-exists test (covered e) ∙ ap not (validated-once vmpl rcx e first n wish m two t reads) in
       absurd (true≢false (sym (rw was at (among (λ q. not (test q)) p (covered e) none (sym (covers-listed e p) ∙ covering))))))
 
 -- ---- a run
@@ -144,7 +143,7 @@ module _ (caller rcx p : ℕ) (m : Lent) where
   stopped k i now up from passed = absurd (omega (arith, stored-at-most k rcx now))
 
   module _ (k first n : ℕ) (wish : Wish) (now : Lent) (low : list-next rcx m ≤ k) (h : Come k now)
-      (reads : read-entry Pvalidate caller rcx (list-entry k rcx now) now ≡ Reads first n wish) where
+      (reads : read-entry Pvalidate (vcpu now caller .vmpl) rcx (list-entry k rcx now) now ≡ Reads first n wish) where
     abbrev then : Lent
     then = carry-out-all wish (vcpu now caller .vmpl) first n now
 
@@ -154,15 +153,15 @@ module _ (caller rcx p : ℕ) (m : Lent) where
         let e = list-entry k rcx now in
         by-test (covers e p)
         (λ t. by-test (bit 2 e)
-        (λ two. absurd (true≢false (sym (validated caller rcx e first n wish now reads p two t) ∙ is)))
+        (λ two. absurd (true≢false (sym (validated _ rcx e first n wish now reads p two t) ∙ is)))
         (λ two. just-invalidated k p rcx m low (rw (h .entries k) at two) (rw (h .entries k) at t)))
         (λ t. still-invalid k p rcx m (rw (h .entries k) at t)
-        (h .why (sym (ap valid (uncovered-left Pvalidate caller rcx e first n wish now reads p t .byte)) ∙ is)))
+        (h .why (sym (ap valid (uncovered-left Pvalidate _ rcx e first n wish now reads p t .byte)) ∙ is)))
 
     come-on : Come (suc k) then
     come-on =
         record {
-          entries = λ j. entry-kept Pvalidate caller rcx (list-entry k rcx now) first n wish now reads j ∙ h .entries j;
+          entries = λ j. entry-kept Pvalidate _ rcx (list-entry k rcx now) first n wish now reads j ∙ h .entries j;
           why = why-then;
         }
 
@@ -171,11 +170,11 @@ module _ (caller rcx p : ℕ) (m : Lent) where
     unfolding Excused
     here after from passed two covering =
         by-test (valid (table-byte now p))
-        (λ was. inl (rw (h .entries k) at (excused-by-bit caller rcx (list-entry k rcx now) first n wish now reads p
+        (λ was. inl (rw (h .entries k) at (excused-by-bit _ rcx (list-entry k rcx now) first n wish now reads p
         (rw (h .entries k) two) (rw (h .entries k) covering) was)))
         (λ was. inr (h .why was))
 
-  entry-excused : (x : Entry) (k i : ℕ) (go-on : Lent → Answered Code Lent) (now : Lent) → read-entry Pvalidate caller rcx (list-entry k rcx now) now ≡ x
+  entry-excused : (x : Entry) (k i : ℕ) (go-on : Lent → Answered Code Lent) (now : Lent) → read-entry Pvalidate (vcpu now caller .vmpl) rcx (list-entry k rcx now) now ≡ x
       → ((then : Lent) → Come (suc k) then → suc k ≤ i → Excused i (go-on then .after))
       → list-next rcx m ≤ k → Come k now → k ≤ i → Excused i (after-entry x caller rcx k go-on now .after)
   unfolding after-entry
@@ -190,5 +189,5 @@ module _ (caller rcx p : ℕ) (m : Lent) where
   unfolding run
   run-excused zero k i now low h up = stopped _ i now (omega arith)
   run-excused (suc todo) k i now low h up =
-      entry-excused (read-entry Pvalidate caller rcx (list-entry k rcx now) now) k i (run Pvalidate caller rcx todo (suc k)) now refl
+      entry-excused (read-entry Pvalidate (vcpu now caller .vmpl) rcx (list-entry k rcx now) now) k i (run Pvalidate caller rcx todo (suc k)) now refl
       (λ then g. run-excused todo (suc k) i then (omega arith) g) low h up

@@ -28,9 +28,9 @@ unfolding guarded
 apart m p q g h = ne-eqb p q (λ e. omega (arith, ltb-true 1 (owner (table-byte m q)) (rw e at g)))
 
 module _ (caller rcx p : ℕ) (m : Lent) (g : guarded m p ≡ true) where
-  uncoverable : (now : Lent) → Untouched p m now → coverable caller rcx now p ≡ false
+  uncoverable : (vmpl : ℕ) (now : Lent) → Untouched p m now → coverable vmpl rcx now p ≡ false
   unfolding coverable owned-by guarded
-  uncoverable now h =
+  uncoverable vmpl now h =
       let high = ltb-true 1 (owner (table-byte m p)) g in
       let other : eqb (owner (table-byte now p)) 0 ≡ false = rw (h .byte) (ne-eqb (owner (table-byte m p)) 0 (λ e. omega arith)) in
       simp (other, and-false)
@@ -43,7 +43,7 @@ module _ (caller rcx p : ℕ) (m : Lent) (g : guarded m p ≡ true) where
         carried = λ e first n wish now h r.
             untouched-twice h
             (each-elsewhere (carry-out wish (vcpu now caller .vmpl)) p (carry-elsewhere wish (vcpu now caller .vmpl) p) (range first n) now
-            (not-among (coverable caller rcx now) p (range first n) (r .passed) (uncoverable now h)));
+            (not-among (coverable (vcpu now caller .vmpl) rcx now) p (range first n) (r .passed) (uncoverable (vcpu now caller .vmpl) now h)));
       }
 
   -- Pvalidate and Deposit

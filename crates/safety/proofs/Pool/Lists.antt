@@ -144,7 +144,7 @@ module _ (caller rcx : ℕ) where
   -- an entry, and what comes after it
   module _ (e todo k : ℕ) (go-on : Lent → Answered Code Lent) (rest : (m : Lent) → Deposited rcx todo (suc k) m (go-on m .after))
       (m : Lent) (is : list-entry k rcx m ≡ e) where
-    goes-on : (vmpl first n : ℕ) (wish : Wish) → Read Deposit caller rcx e first n wish m
+    goes-on : (vmpl first n : ℕ) (wish : Wish) → Read Deposit vmpl rcx e first n wish m
         → Deposited rcx (suc todo) k m (go-on (carry-out-all wish vmpl first n m) .after)
     unfolding store-index write with-memory wish-of
     goes-on vmpl first n wish r =
@@ -167,9 +167,9 @@ module _ (caller rcx : ℕ) where
           counted = omega (arith, d .counted);
         }
 
-    deposit-entry : (x : Entry) → read-entry Deposit caller rcx e m ≡ x → Deposited rcx (suc todo) k m (after-entry x caller rcx k go-on m .after)
+    deposit-entry : (x : Entry) → read-entry Deposit (vcpu m caller .vmpl) rcx e m ≡ x → Deposited rcx (suc todo) k m (after-entry x caller rcx k go-on m .after)
     unfolding after-entry
-    deposit-entry (Reads first n wish) told = goes-on (vcpu m caller .vmpl) first n wish (entry-read Deposit caller rcx e first n wish m told)
+    deposit-entry (Reads first n wish) told = goes-on _ first n wish (entry-read Deposit _ rcx e first n wish m told)
     deposit-entry (Unread code) told = stopped (suc todo) k m
 
   -- a run of Deposit
@@ -178,4 +178,4 @@ module _ (caller rcx : ℕ) where
   run-deposits zero k m = stopped 0 k m
   run-deposits (suc todo) k m =
       deposit-entry (list-entry k rcx m) todo k (run Deposit caller rcx todo (suc k)) (run-deposits todo (suc k)) m refl
-      (read-entry Deposit caller rcx (list-entry k rcx m) m) refl
+      (read-entry Deposit (vcpu m caller .vmpl) rcx (list-entry k rcx m) m) refl

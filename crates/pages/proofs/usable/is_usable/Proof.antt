@@ -1,0 +1,26 @@
+-- `pages::usable::is_usable` meets its contract: the page number is compared with all its bits.
+-- Assumes nothing.
+use mathlib.Core.Path.{ap, _∙_}
+use borrow.Author.Tests.{lt-ltb, le-ltb}
+use Rattle.rules.specs.Machine.{N, below, table-byte, usable}
+use borrow.Author.Needs.{needs}
+use Rattle.pages.proofs.usable.is_usable.Statement.{statement}
+use Rattle.pages.proofs.usable.is_usable.Tie as tie
+
+returns : tie.Need-returns
+unfolding usable below N table-byte
+returns c = rw (le-ltb _ _ (c .if1 .taken))
+
+shared-slice-read-is-valid : tie.Need-shared-slice-read-is-valid
+shared-slice-read-is-valid c = search needs
+
+is-valid-requires : tie.Need-is-valid-requires
+is-valid-requires c κs = search needs
+
+returns-2 : tie.Need-returns-2
+unfolding usable below N table-byte
+returns-2 c = rw (lt-ltb _ _ (c .before .before .if1 .left), ← c .is-valid .ensures)
+
+pub is-usable-spec : {M : Type 1} → statement M
+is-usable-spec =
+    tie.close (tie.spec returns shared-slice-read-is-valid is-valid-requires returns-2)
