@@ -2,12 +2,15 @@
 -- Assumes nothing.
 use mathlib.Core.Path.{_≡_, sym, _∙_}
 use mathlib.Core.Bool.{cond}
-use mathlib.Core.List.{List, []}
+use mathlib.Core.List.{List}
 use Prim.Native.Nat.{ℕ}
 use lib.ListN.{getD, set}
 use Rattle.rules.specs.Words.{lowest}
-use Rattle.rules.specs.Machine.{Lent, change, put, table-byte, own, revoke, needs-page, amend}
+use Rattle.rules.specs.Machine.{Lent, own, revoke, needs-page, amend}
 use Rattle.rules.specs.Calls.{Asked, is-free, free-page, new-record, created}
+use Rattle.laws.specs.Alone.{table-alone}
+use Rattle.laws.specs.Revised.{revise}
+use Rattle.laws.proofs.Change.{change-table, change-memory, change-sheet}
 use Rattle.laws.proofs.Ranges.{by-test}
 
 -- the table with the VMSA page and the calling page marked
@@ -25,16 +28,16 @@ all-marked table i vmsa calling pool =
 module _ (a : Asked) (i : ℕ) (m : Lent) where
   pub table-made : (pool : ℕ) → pool ≡ cond (needs-page i) (lowest is-free (m .table)) 0
       → all-marked (m .table) i (a .vmsa) (a .calling) pool ≡ created a i m .table
-  unfolding created change put table-byte amend free-page
-  table-made pool e = by-test (needs-page i) (λ t. rw (e, t)) (λ t. rw (e, t))
+  unfolding created amend free-page revise
+  table-made pool e = by-test (needs-page i) (λ t. rw (e, t) (simp change-table)) (λ t. rw (e, t) (simp change-table))
 
   pub memory-made : created a i m .memory ≡ m .memory
-  unfolding created change put amend
-  memory-made = by-test (needs-page i) (λ t. rw t) (λ t. rw t)
+  unfolding created amend
+  memory-made = by-test (needs-page i) (λ t. rw t (simp change-memory)) (λ t. rw t (simp change-memory))
 
   pub sheet-made : created a i m .sheet ≡ set (m .sheet) i (new-record a i m)
-  unfolding created change put amend
-  sheet-made = by-test (needs-page i) (λ t. rw t) (λ t. rw t)
+  unfolding created amend
+  sheet-made = by-test (needs-page i) (λ t. rw t (simp change-sheet)) (λ t. rw t (simp change-sheet))
 
   -- all that is made, from its parts
   pub all-made : (memory : List (List ℕ)) (table : List ℕ) (sheet : List (List ℕ)) → memory ≡ m .memory
@@ -43,7 +46,7 @@ module _ (a : Asked) (i : ℕ) (m : Lent) where
   all-made memory table sheet e f g = λ k. record { memory = (e ∙ sym memory-made) k; table = f k; sheet = (g ∙ sym sheet-made) k }
 
   -- the table's changes look at nothing but the table and the two pages
-  pub table-alone : created (record { caller-vmpl = 0; vmsa = a .vmsa; calling = a .calling; apic = 0 }) i
-      (record { memory = []; table = m .table; sheet = [] }) .table ≡ created a i m .table
-  unfolding created change put table-byte amend free-page
-  table-alone = by-test (needs-page i) (λ t. rw t) (λ t. rw t)
+  pub table-from-table : created (record { caller-vmpl = 0; vmsa = a .vmsa; calling = a .calling; apic = 0 }) i (table-alone (m .table)) .table
+      ≡ created a i m .table
+  unfolding created amend free-page
+  table-from-table = by-test (needs-page i) (λ t. rw t (simp change-table)) (λ t. rw t (simp change-table))

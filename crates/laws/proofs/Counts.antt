@@ -10,8 +10,9 @@ use lib.Dec.{ltb, eqb, leb·suc-zero, leb·suc-suc, eqb·suc-zero, eqb·suc-suc}
 use lib.ListN.{length, getD, take, set, length-set, List·getD-eq-default}
 use lib.Seq.{getD-set-same, getD-set-other}
 use Rattle.rules.specs.Words.{range, every, exists, count, places, each}
-use Rattle.rules.specs.Machine.{Lent, table-byte, put, change}
+use Rattle.rules.specs.Machine.{Lent, table-byte, change}
 use Rattle.laws.specs.Revised.{revise}
+use Rattle.laws.proofs.Change.{change-table, change-memory, change-sheet}
 use Rattle.laws.proofs.Ranges.{by-test, length-range, range-snoc, exists-range, each-part, each-same, Rising, none, more, rising-take, rising-range}
 use Rattle.laws.proofs.Ranges.{rising-places, rising→every, rising→absent, rising→outside}
 
@@ -140,8 +141,7 @@ module _ {A : Type 0} (f : A → A) (d : A) where
 module _ (f : ℕ → ℕ) (effect : ℕ → Lent → Lent) (changes : (p : ℕ) (m : Lent) → effect p m .table ≡ change f p m .table) where
   -- the table after it
   pub table-each : (ps : List ℕ) (m : Lent) → each effect ps m .table ≡ each (revise f 0) ps (m .table)
-  unfolding change put table-byte revise
-  table-each = each-part (λ m. m .table) effect (revise f 0) changes
+  table-each = each-part (λ m. m .table) effect (revise f 0) (λ p m. changes p m ∙ change-table f p m)
 
   -- as long as before
   pub length-table-each : (ps : List ℕ) (m : Lent) → length (each effect ps m .table) ≡ length (m .table)
@@ -216,13 +216,11 @@ module _ (f : ℕ → ℕ) (effect : ℕ → Lent → Lent) (changes : (p : ℕ)
 
 -- the single-page change, on however many pages, leaves the memory as it was
 pub memory-each : (f : ℕ → ℕ) (ps : List ℕ) (m : Lent) → each (change f) ps m .memory ≡ m .memory
-unfolding change put
-memory-each f = each-same (λ m. m .memory) (change f) (λ p m. refl)
+memory-each f = each-same (λ m. m .memory) (change f) (change-memory f)
 
 -- and the sheet
 pub sheet-each : (f : ℕ → ℕ) (ps : List ℕ) (m : Lent) → each (change f) ps m .sheet ≡ m .sheet
-unfolding change put
-sheet-each f = each-same (λ m. m .sheet) (change f) (λ p m. refl)
+sheet-each f = each-same (λ m. m .sheet) (change f) (change-sheet f)
 
 -- a loop that counts over a range
 pub count-more : (test : ℕ → Bool) (first i : ℕ) → count test (range first (suc i)) ≡ count test (range first i) + one (test (first + i))

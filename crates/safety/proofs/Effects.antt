@@ -21,7 +21,7 @@ use Rattle.laws.proofs.Numbers.{getD-sets-elsewhere}
 use Rattle.laws.proofs.Counts.{memory-each, sheet-each}
 use Rattle.safety.proofs.Small.{implied}
 use Rattle.safety.proofs.Branches.{on-test}
-use Rattle.safety.proofs.Change.{Puts, put-puts, change-puts, change-other, change-N, change-memory, change-sheet, change-byte, change-alike}
+use Rattle.laws.proofs.Change.{Puts, put-puts, change-puts, change-other, change-N, change-memory, change-sheet, change-byte, change-alike}
 
 -- ---- a table byte
 

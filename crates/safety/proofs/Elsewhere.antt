@@ -13,7 +13,7 @@ use Rattle.rules.specs.Machine.{Lent, with-memory, write, fill, table-byte, cha
 use Rattle.rules.specs.Lists.{cleared, carry-out}
 use Rattle.laws.proofs.Ranges.{or-false}
 use Rattle.safety.specs.Terms.{Kept-page}
-use Rattle.safety.proofs.Change.{change-puts, puts-page, change-other}
+use Rattle.laws.proofs.Change.{change-puts, puts-page, change-other}
 use Rattle.safety.proofs.Effects.{page-not-written, carry-out-other, carried-puts}
 
 -- page p has the bytes and the table byte that it had

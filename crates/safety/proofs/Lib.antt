@@ -1,7 +1,6 @@
 -- Proofs of the statements in specs/, a folder for each subject; before the folders what they share. Theorems has them by their numbers.
 pub mod Small
 pub mod Branches
-pub mod Change
 pub mod Effects
 pub mod Elsewhere
 pub mod Entries

@@ -11,7 +11,7 @@ use Rattle.rules.specs.Machine.{needs-page, page-at}
 use Rattle.rules.specs.Calls.{is-free, new-record, free-page}
 use Rattle.rules.specs.Flat.{parted}
 use Rattle.laws.proofs.Ranges.{by-test}
-use Rattle.create_call.proofs.Made.{table-alone, all-made}
+use Rattle.create_call.proofs.Made.{table-from-table, all-made}
 use borrow.Author.Needs.{needs}
 use Rattle.create_call.proofs.make.Statement.{statement}
 use Rattle.create_call.proofs.make.Tie as tie
@@ -67,7 +67,7 @@ unfolding parted new-record page-at free-page
 returns c =
     let at-put-record = c .before .before in let at-table = at-put-record .before .before .before in
     let at-mark-pages = at-table .before in let at-holding-of = at-mark-pages .before .before in
-    all-made _ _ _ _ _ _ refl (at-mark-pages .mark-pages .ensures ∙ table-alone _ _ _)
+    all-made _ _ _ _ _ _ refl (at-mark-pages .mark-pages .ensures ∙ table-from-table _ _ _)
     (at-put-record .put-record .ensures ∙ rw (at-holding-of .before .vmpl-of .ensures, at-holding-of .holding-of .ensures, pooled at-holding-of .pool-page .ensures))
 
 pub make-spec : {M : Type 1} → statement M

@@ -1,33 +1,34 @@
 -- `create_call::unfit_page` meets its contract: each return follows the definition's tests in their order.
 -- Assumes nothing.
-use borrow.Author.Tests.{lt-ltb, le-ltb, not-true, not-false}
-use Rattle.create_call.specs.Fit.{unfit-page}
+use mathlib.Core.Path.{sym, _∙_}
+use borrow.Author.Tests.{not-true, not-false}
+use Rattle.rules.specs.Machine.{N, table-byte, owned-by}
+use Rattle.rules.specs.Calls.{unfit-page}
+use Rattle.laws.proofs.Usable.{usable→}
 use borrow.Author.Needs.{needs}
 use Rattle.create_call.proofs.unfit_page.Statement.{statement}
 use Rattle.create_call.proofs.unfit_page.Tie as tie
 
+is-usable-requires : tie.Need-is-usable-requires
+is-usable-requires c κs = search needs
+
 returns : tie.Need-returns
 unfolding unfit-page
-returns c = rw (le-ltb _ _ (c .if1 .taken))
+returns c = rw (sym (c .before .is-usable .ensures) ∙ not-true _ (c .if1 .taken))
 
-shared-slice-read-b : tie.Need-shared-slice-read-b
-shared-slice-read-b c = search needs
-
-is-valid-requires : tie.Need-is-valid-requires
-is-valid-requires c κs = search needs
-
-returns-2 : tie.Need-returns-2
-unfolding unfit-page
-returns-2 c = rw (lt-ltb _ _ (c .before .before .before .if1 .left), ← c .before .is-valid .ensures, not-true (c .before .is-valid .result) (c .if2 .taken))
+shared-slice-read-owner-of : tie.Need-shared-slice-read-owner-of
+unfolding N
+shared-slice-read-owner-of c = let at-if1 = c .before in usable→ _ _ _ (sym (at-if1 .before .is-usable .ensures) ∙ not-false _ (at-if1 .if1 .left)) .0
 
 owner-of-requires : tie.Need-owner-of-requires
 owner-of-requires c κs = search needs
 
-returns-3 : tie.Need-returns-3
-unfolding unfit-page
-returns-3 c = let at-is-valid = c .before .before in rw (lt-ltb _ _ (at-is-valid .before .before .if1 .left), ← at-is-valid .is-valid .ensures, not-false (at-is-valid .is-valid .result) (c .before .if2 .left), ← c .owner-of .ensures)
+returns-2 : tie.Need-returns-2
+unfolding unfit-page owned-by table-byte
+returns-2 c =
+    let at-if1 = c .before .before in
+    rw (sym (at-if1 .before .is-usable .ensures) ∙ not-false _ (at-if1 .if1 .left), ← c .owner-of .ensures)
 
 pub unfit-page-spec : {M : Type 1} → statement M
 unfit-page-spec =
-    tie.close
-    (tie.spec returns shared-slice-read-b is-valid-requires returns-2 owner-of-requires returns-3)
+    tie.close (tie.spec is-usable-requires returns shared-slice-read-owner-of owner-of-requires returns-2)

@@ -1,9 +1,7 @@
 -- `create_call::unfit_pages` meets its contract: each return follows the definition's tests in their order.
 -- Assumes nothing.
 use mathlib.Core.Path.{sym, _∙_}
-use Rattle.rules.specs.Machine.{usable, below, N, owned-by, table-byte}
 use Rattle.rules.specs.Calls.{unfit-pages}
-use Rattle.create_call.specs.Fit.{unfit-page}
 use borrow.Author.Needs.{needs}
 use Rattle.create_call.proofs.unfit_pages.Statement.{statement}
 use Rattle.create_call.proofs.unfit_pages.Tie as tie
@@ -12,18 +10,18 @@ unfit-page-requires : tie.Need-unfit-page-requires
 unfit-page-requires c κs = search needs
 
 returns : tie.Need-returns
-unfolding unfit-pages usable below N owned-by table-byte unfit-page
+unfolding unfit-pages
 returns c = rw (sym (c .before .unfit-page .ensures) ∙ c .if1 .taken)
 
 unfit-page-requires-2 : tie.Need-unfit-page-requires-2
 unfit-page-requires-2 c κs = search needs
 
 returns-2 : tie.Need-returns-2
-unfolding unfit-pages usable below N owned-by table-byte unfit-page
+unfolding unfit-pages
 returns-2 c = rw (sym (c .before .before .before .unfit-page .ensures) ∙ c .before .before .if1 .left, sym (c .before .unfit-page2 .ensures) ∙ c .if2 .taken)
 
 returns-3 : tie.Need-returns-3
-unfolding unfit-pages usable below N owned-by table-byte unfit-page
+unfolding unfit-pages
 returns-3 c = rw (sym (c .before .before .before .unfit-page .ensures) ∙ c .before .before .if1 .left, sym (c .before .unfit-page2 .ensures) ∙ c .if2 .left)
 
 pub unfit-pages-spec : {M : Type 1} → statement M

@@ -13,7 +13,6 @@ use Rattle.rules.specs.Machine.{page-at, startup, vcpu, record-at, fields, vmsa
 use Rattle.rules.specs.Launch.{unfit-vmsa}
 use Rattle.rules.specs.Calls.{unfit-vcpu}
 use Rattle.rules.specs.Flat.{parts, parted}
-use Rattle.sheet.specs.Row.{vcpu-in}
 use Rattle.sheet.proofs.At.{at}
 use borrow.Author.Needs.{needs}
 use Rattle.create_call.proofs.unfit_vcpu.Statement.{statement}
@@ -23,13 +22,13 @@ abbrev start : tie.Else1 → tie.Start
 start c = let at-is-unfit = c .before in at-is-unfit .before .before .before
 
 -- what the first two tests have shown of the page, once they are passed
-not-below : (c : tie.Else2) → let s = start (c .before .before .before) in let page = getD (parts page-size (now (s .args .memory))) (s .args .vmsa) [] in
-    (unfit-vmsa page || ltb (vmsa-vmpl page) (vcpu-in (now (s .args .sheet)) (s .args .caller) .vmpl)) ≡ false
-unfolding fields record-size page-size
+not-below : (c : tie.Else2) → let s = start (c .before .before) in let page = getD (parts page-size (now (s .args .memory))) (s .args .vmsa) [] in
+    (unfit-vmsa page || ltb (vmsa-vmpl page) (s .args .caller-vmpl)) ≡ false
+unfolding page-size
 not-below c =
-    let at-byte = c .before in let at-vmpl = at-byte .before in let at-if1 = at-vmpl .before in
-    let not-less = le-ltb (at-vmpl .vmpl-of .result) (at-byte .byte .result) (omega (arith, c .if2 .left)) in
-    rw (sym (at-if1 .before .is-unfit .ensures) ∙ at-if1 .if1 .left, ← at-vmpl .vmpl-of .ensures, ← at-byte .byte .ensures, not-less)
+    let at-vmpl = c .before in let at-if1 = at-vmpl .before in
+    let not-less = le-ltb (at-vmpl .vmpl-of .result) (start at-if1 .args .caller-vmpl) (omega (arith, c .if2 .left)) in
+    rw (sym (at-if1 .before .is-unfit .ensures) ∙ at-if1 .if1 .left, ← at-vmpl .vmpl-of .ensures, not-less)
 
 is-unfit-requires : tie.Need-is-unfit-requires
 is-unfit-requires c κs = search needs
@@ -41,22 +40,19 @@ returns c = rw (sym (c .before .is-unfit .ensures) ∙ c .if1 .taken)
 vmpl-of-requires : tie.Need-vmpl-of-requires
 vmpl-of-requires c κs = search needs
 
-byte-requires : tie.Need-byte-requires
-byte-requires c κs = let told = start (c .before) .pre in at (record { sized = told .whole; below = told .told }) 1 1 (lit≤ tt)
-
 returns-2 : tie.Need-returns-2
 unfolding unfit-vcpu page-at startup vcpu record-at parted fields page-size record-size
 returns-2 c =
-    let at-byte = c .before in let at-vmpl = at-byte .before in let at-if1 = at-vmpl .before in
-    let less = lt-ltb (at-vmpl .vmpl-of .result) (at-byte .byte .result) (omega (arith, c .if2 .taken)) in
-    rw (sym (at-if1 .before .is-unfit .ensures) ∙ at-if1 .if1 .left, ← at-vmpl .vmpl-of .ensures, ← at-byte .byte .ensures, less)
+    let at-vmpl = c .before in let at-if1 = at-vmpl .before in
+    let less = lt-ltb (at-vmpl .vmpl-of .result) (start at-if1 .args .caller-vmpl) (omega (arith, c .if2 .taken)) in
+    rw (sym (at-if1 .before .is-unfit .ensures) ∙ at-if1 .if1 .left, ← at-vmpl .vmpl-of .ensures, less)
 
 features-of-requires : tie.Need-features-of-requires
 features-of-requires c κs = search needs
 
 number8-requires : tie.Need-number8-requires
 unfolding records
-number8-requires c κs = let at-if2 = c .before in at (record { sized = start (at-if2 .before .before .before) .pre .whole; below = lit< tt }) 24 8 (lit≤ tt)
+number8-requires c κs = let at-if2 = c .before in at (record { sized = start (at-if2 .before .before) .pre .whole; below = lit< tt }) _ _ (lit≤ tt)
 
 returns-3 : tie.Need-returns-3
 unfolding unfit-vcpu page-at startup vcpu record-at parted fields page-size record-size
@@ -80,7 +76,6 @@ unfit-vcpu-spec =
     is-unfit-requires
     returns
     vmpl-of-requires
-    byte-requires
     returns-2
     features-of-requires
     number8-requires

@@ -61,7 +61,7 @@ meant : (c : tie.Else3) → let i = named c .named-by .result in
     (not (multiple page-size (start (named c) .args .rcx)) || leb (length (machine (named c) .sheet)) i || eqb i 0) ≡ false
 unfolding multiple page-size parted records
 meant c =
-    rw (eq-eqb _ 0 (named c .before .before .if1 .left), rows-tested _ _ (start (named c) .pre), lt-leb 16 _ (c .before .if2 .left), ne-eqb _ 0 (c .if3 .left))
+    rw (eq-eqb _ 0 (named c .before .before .if1 .left), rows-tested _ _ (start (named c) .pre), lt-leb records _ (c .before .if2 .left), ne-eqb _ 0 (c .if3 .left))
 
 returns : tie.Need-returns
 unfolding delete refuse multiple page-size
@@ -75,7 +75,7 @@ same-length c = search needs
 
 returns-2 : tie.Need-returns-2
 unfolding delete refuse named-by page-of multiple page-size vcpu record-at parted records record-size
-returns-2 c = let at-found = c .before in rw (eq-eqb _ 0 (at-found .before .before .if1 .left), ← found at-found, rows-tested _ _ (start at-found .pre), le-leb 16 _ (c .if2 .taken))
+returns-2 c = let at-found = c .before in rw (eq-eqb _ 0 (at-found .before .before .if1 .left), ← found at-found, rows-tested _ _ (start at-found .pre), le-leb records _ (c .if2 .taken))
 
 same-length-2 : tie.Need-same-length-2
 same-length-2 c = search needs
@@ -84,7 +84,7 @@ returns-3 : tie.Need-returns-3
 unfolding delete refuse named-by page-of multiple page-size vcpu record-at parted records record-size
 returns-3 c =
     let at-if2 = c .before in let at-found = at-if2 .before in
-    rw (eq-eqb _ 0 (at-found .before .before .if1 .left), ← found at-found, rows-tested _ _ (start at-found .pre), lt-leb 16 _ (at-if2 .if2 .left), eq-eqb _ 0 (c .if3 .taken))
+    rw (eq-eqb _ 0 (at-found .before .before .if1 .left), ← found at-found, rows-tested _ _ (start at-found .pre), lt-leb records _ (at-if2 .if2 .left), eq-eqb _ 0 (c .if3 .taken))
 
 byte-requires : tie.Need-byte-requires
 byte-requires c κs = let tested = start (named (c .before)) .pre in at (record { sized = sheet-tested _ _ tested; below = caller-below _ _ tested }) _ _ (lit≤ tt)

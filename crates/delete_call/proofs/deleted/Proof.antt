@@ -1,17 +1,16 @@
 -- `delete_call::deleted` meets its contract: the effects in order, each on what the one before it left.
 -- Assumes nothing.
-use mathlib.Core.Path.{_∙_}
+use mathlib.Core.Path.{sym, _∙_}
 use lib.Dec.{lit≤}
 use Prim.Native.Nat.{_<_}
 use lib.ListN.{length, length-set}
 use denote.Ref.{now}
 use Rattle.rules.specs.Words.{record-size}
-use Rattle.rules.specs.Machine.{fields, holds, write, with-memory, page-at, change, put, table-byte, vcpu, record-at, amend}
-use Rattle.rules.specs.Calls.{clear-svme, deleted}
+use Rattle.rules.specs.Machine.{fields, vcpu, record-at}
 use Rattle.rules.specs.Flat.{parted}
-use Rattle.laws.proofs.Ranges.{by-test}
-use Rattle.sheet.specs.Row.{row}
+use Rattle.laws.specs.Revised.{revise}
 use Rattle.sheet.proofs.At.{at}
+use Rattle.delete_call.proofs.Cleared.{cleared}
 use borrow.Author.Needs.{needs}
 use Rattle.delete_call.proofs.deleted.Statement.{statement}
 use Rattle.delete_call.proofs.deleted.Tie as tie
@@ -86,18 +85,15 @@ same-length-3 : tie.Need-same-length-3
 same-length-3 c = search needs
 
 returns : tie.Need-returns
-unfolding deleted clear-svme write with-memory page-at change put table-byte vcpu record-at amend fields parted record-size
+unfolding vcpu record-at fields revise parted record-size
 returns c =
     let at-clear-record = c .before .before in let at-table = at-clear-record .before .before .before in let at-free-pool = at-table .before in
     let at-owned2 = at-free-pool .before .before .before in let at-granted = at-owned2 .before .before in let at-owned = at-granted .before in
     let at-known = at-owned .before in let at-clear-svme = at-known .before .before .before in
-    let at-number42 = at-clear-svme .before .before in let at-number4 = at-number42 .before .before in let at-start = start (at-number4 .before) in
+    let at-number42 = at-clear-svme .before .before in let at-number4 = at-number42 .before .before in
     let memory = rw (at-number4 .number4 .ensures) at (at-clear-svme .clear-svme .ensures) in
     let table = rw (at-owned2 .owned2 .ensures, at-granted .granted .ensures, at-owned .owned .ensures, at-number4 .number4 .ensures, at-number42 .number42 .ensures) at (at-free-pool .free-pool .ensures) in
-    let sheet = at-clear-record .clear-record .ensures in
-    by-test (holds (row (now (at-start .args .sheet)) (at-start .args .i)))
-    (λ t. let freed = rw t at table in rw t (λ k. record { memory = memory k; table = freed k; sheet = sheet k }))
-    (λ t. let kept = rw t at table in rw t (λ k. record { memory = memory k; table = kept k; sheet = sheet k }))
+    (λ k. record { memory = memory k; table = table k; sheet = at-clear-record .clear-record .ensures k }) ∙ sym (cleared _ _ _)
 
 pub deleted-spec : {M : Type 1} → statement M
 deleted-spec =

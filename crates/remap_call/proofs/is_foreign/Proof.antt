@@ -1,7 +1,6 @@
 -- `remap_call::is_foreign` meets its contract.
 -- Assumes nothing.
-use mathlib.Core.Path.{_≡_}
-use borrow.Author.Tests.{lt-leb, le-leb, lt-ltb, le-ltb, eq-eqb, ne-eqb, not-true, not-false}
+use borrow.Author.Tests.{eq-eqb, ne-eqb}
 use borrow.Author.Needs.{needs}
 use Rattle.remap_call.proofs.is_foreign.Statement.{statement}
 use Rattle.remap_call.proofs.is_foreign.Tie as tie

@@ -1,66 +1,62 @@
 -- `remap_call::move_all` meets its contract: table, record and pages, each as the definition has it.
 -- Assumes nothing.
 use mathlib.Core.Path.{_≡_, sym, _∙_, ap}
-use Prim.Native.Nat.{ℕ, _/_, _<_}
+use Prim.Native.Nat.{ℕ, _<_}
 use mathlib.Core.List.{[], _∷_}
-use lib.Dec.{eqb}
-use Rattle.laws.proofs.Ranges.{by-test}
 use native.Mathlib.Omega.{arith}
 use lib.Dec.{lit<, lit≤}
 use lib.ListN.{length}
 use denote.Ref.{now}
-use Rattle.rules.specs.Words.{page-size, most-pages, record-size, records, little}
-use Rattle.rules.specs.Machine.{own, put, change, table-byte, amend, record-at, write, with-memory, written}
-use Rattle.rules.specs.Calls.{remapped}
-use Rattle.rules.specs.Flat.{Buffers, parts, parted}
-use Rattle.laws.specs.Revised.{revise}
-use Rattle.laws.proofs.Parts.{length-parts}
+use Rattle.rules.specs.Words.{page-size, most-pages, record-size}
+use Rattle.rules.specs.Machine.{written}
+use Rattle.rules.specs.Flat.{buffers, parts, parted, memory-sized}
+use Rattle.laws.proofs.Parts.{same-parts}
 use Rattle.laws.proofs.FlatSteps.{sizes}
-use Rattle.laws.specs.Tested.{Tested}
-use Rattle.laws.proofs.Tested.{pages-tested, memory-tested, sheet-tested, rows-tested, caller-below}
-use Rattle.rules.specs.Flat.{memory-sized}
+use Rattle.laws.proofs.Tested.{pages-tested, memory-tested}
 use Rattle.sheet.proofs.At.{at}
+use Rattle.sheet.proofs.Caller.{caller-row}
+use Rattle.remap_call.proofs.Moved.{moved}
 use borrow.Author.Needs.{needs}
 use Rattle.remap_call.proofs.move_all.Statement.{statement}
 use Rattle.remap_call.proofs.move_all.Tie as tie
 
+-- where the function began, seen from before each write
+abbrev start : tie.After-move-area-arg → tie.Start
+start c = let at-known = c .before in at-known .before .before .before
+
+abbrev start2 : tie.After-put-number4-arg → tie.Start
+start2 c = let at-table = c .before .before in start (at-table .before .before)
+
+abbrev start3 : tie.After-put-byte-arg → tie.Start
+start3 c = let at-sheet = c .before .before in start2 (at-sheet .before .before)
+
+abbrev start4 : tie.After-put-byte-arg2 → tie.Start
+start4 c = let at-memory = c .before .before in start3 (at-memory .before .before)
+
 move-area-requires : tie.Need-move-area-requires
-move-area-requires c κs = (c .before .before .before .before .pre .old-below, c .before .before .before .before .pre .new-below)
+move-area-requires c κs = (start c .pre .old-below, start c .pre .new-below)
 
 cast-put-number4 : tie.Need-cast-put-number4
 unfolding memory-sized most-pages
 cast-put-number4 c =
-    let start = c .before .before .before .before .before .before .before .before in
-    let b : Buffers = record { memory = now (start .args .memory); table = now (start .args .table); sheet = now (start .args .sheet) } in
-    let t = start .pre .tested in
-    omega (arith, sizes _ _ (memory-tested b (start .args .caller) t) .most, start .pre .new-below)
+    let at-table = c .before .before in let pre = start (at-table .before .before) .pre in
+    omega (arith, sizes _ _ (memory-tested _ _ (pre .tested)) .most, pre .new-below)
 
 put-number4-requires : tie.Need-put-number4-requires
-unfolding record-size records
-put-number4-requires c κs =
-    let start = c .before .before .before .before .before .before .before .before in
-    let b : Buffers = record { memory = now (start .args .memory); table = now (start .args .table); sheet = now (start .args .sheet) } in
-    let t = start .pre .tested in
-    at (record { sized = sheet-tested b (start .args .caller) t; below = caller-below b (start .args .caller) t }) _ _ (lit≤ tt)
+put-number4-requires c κs = at (caller-row (start2 c .pre .tested)) _ _ (lit≤ tt)
 
 put-byte-requires : tie.Need-put-byte-requires
 unfolding page-size
 put-byte-requires c κs =
-    let start = c .before .before .before .before .before .before .before .before .before .before .before .before in
-    let b : Buffers = record { memory = now (start .args .memory); table = now (start .args .table); sheet = now (start .args .sheet) } in
-    let t = start .pre .tested in
-    let pages = pages-tested b (start .args .caller) t in
-    record { some = lit< tt; below = omega (arith, start .pre .old-below); within = lit≤ tt }
+    let pre = start3 c .pre in
+    record { some = lit< tt; below = omega (arith, pages-tested _ _ (pre .tested), pre .old-below); within = lit≤ tt }
 
 put-byte-requires-2 : tie.Need-put-byte-requires-2
 unfolding page-size
 put-byte-requires-2 c κs =
-    let start = c .before .before .before .before .before .before .before .before .before .before .before .before .before .before .before .before in
-    let b : Buffers = record { memory = now (start .args .memory); table = now (start .args .table); sheet = now (start .args .sheet) } in
-    let t = start .pre .tested in
-    let pages = pages-tested b (start .args .caller) t in
-    let same = length-parts 4096 (c .before .before .before .put-byte .last .0) ∙ ap (λ (n : ℕ). n / 4096) (c .before .before .before .put-byte .kept .0) ∙ sym (length-parts 4096 (b .memory)) in
-    record { some = lit< tt; below = omega (arith, start .pre .new-below); within = lit≤ tt }
+    let pre = start4 c .pre in let at-memory = c .before .before in
+    let same = same-parts page-size (now (start4 c .args .memory)) (at-memory .before .put-byte .last .0) (at-memory .before .put-byte .kept .0) in
+    record { some = lit< tt; below = omega (arith, same, pages-tested _ _ (pre .tested), pre .new-below); within = lit≤ tt }
 
 same-length : tie.Need-same-length
 same-length c = search needs
@@ -72,15 +68,15 @@ same-length-3 : tie.Need-same-length-3
 same-length-3 c = search needs
 
 returns : tie.Need-returns
-unfolding remapped change put table-byte amend record-at write with-memory written revise parted page-size record-size
+unfolding parted page-size record-size
 returns c =
-    let a = c .before .before .before .before .before .before .before .before .before .before .before .before .before .before .before .before .before .before .before .args in
-    let table = c .before .before .before .before .before .before .before .before .before .before .before .before .before .before .move-area .ensures in
-    let sheet = sym (c .before .before .before .before .before .before .before .before .before .before .put-number4 .ensures) in
-    let memory = sym (c .before .before .put-byte2 .ensures ∙ ap (written (a .new) 0 (0 ∷ [])) (c .before .before .before .before .before .before .put-byte .ensures)) in
-    by-test (eqb (a .old) (a .new))
-    (λ e. rw e (λ i. record { memory = memory i; table = sym (rw e at table) i; sheet = sheet i }))
-    (λ e. rw e (λ i. record { memory = memory i; table = sym (rw e at table) i; sheet = sheet i }))
+    let at-put-byte2 = c .before .before in let at-memory = at-put-byte2 .before .before .before in
+    let at-put-byte = at-memory .before in let at-sheet = at-put-byte .before .before .before in
+    let at-put-number4 = at-sheet .before in let at-table = at-put-number4 .before .before .before in
+    let at-move-area = at-table .before in let a = start (at-move-area .before) .args in
+    let memory = at-put-byte2 .put-byte2 .ensures ∙ ap (written (a .new) 0 (0 ∷ [])) (at-put-byte .put-byte .ensures) in
+    moved _ _ _ _
+    ∙ (λ i. record { memory = sym memory i; table = sym (at-move-area .move-area .ensures) i; sheet = sym (at-put-number4 .put-number4 .ensures) i })
 
 pub move-all-spec : {M : Type 1} → statement M
 move-all-spec =

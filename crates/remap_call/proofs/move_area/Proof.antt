@@ -1,6 +1,6 @@
 -- `remap_call::move_area` meets its contract.
 -- Assumes nothing.
-use borrow.Author.Tests.{lt-leb, le-leb, lt-ltb, le-ltb, eq-eqb, ne-eqb, not-true, not-false}
+use borrow.Author.Tests.{eq-eqb, ne-eqb}
 use Rattle.laws.specs.Revised.{revise}
 use borrow.Author.Needs.{needs}
 use Rattle.remap_call.proofs.move_area.Statement.{statement}

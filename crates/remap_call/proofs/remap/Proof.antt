@@ -1,104 +1,90 @@
 -- `remap_call::remap` meets its contract: each refusal is the definition's, in its order, and what is moved is the definition's.
 -- Assumes nothing.
-use mathlib.Core.Bool.{not, _&&_}
-use mathlib.Core.Path.{_≡_, ap, _∙_}
-use Prim.Native.Nat.{ℕ}
+use mathlib.Core.Path.{_≡_, ap, sym, _∙_}
+use mathlib.Core.Bool.{true}
+use Prim.Native.Nat.{ℕ, _<_}
 use native.Mathlib.Omega.{arith}
-use lib.ListN.{length, getD}
-use borrow.Author.Tests.{lt-ltb, le-ltb, eq-eqb, ne-eqb, not-true, not-false}
-use lib.Dec.{eqb, lit≤}
-use Rattle.rules.specs.declared.Code.the-variants.{Success}
+use lib.Dec.{lit≤}
+use lib.ListN.{length}
 use denote.Ref.{now}
-use Rattle.rules.specs.Words.{multiple, page-size, records, record-size}
-use Rattle.rules.specs.Answers.{refuse}
-use Rattle.rules.specs.Machine.{N, below, page-of, plain, owner, valid, table-byte, owned-by, usable, fields, record-at, vcpu}
-use Rattle.rules.specs.Calls.{remap, remapped}
-use Rattle.rules.specs.Flat.{Buffers, parted}
-use Rattle.laws.proofs.Tested.{sheet-tested, caller-below, caller-names}
+use borrow.Author.Tests.{not-true, not-false}
+use Rattle.rules.specs.Words.{page-size, record-size}
+use Rattle.rules.specs.Machine.{N, page-of, usable, fields}
+use Rattle.rules.specs.Calls.{remapped}
+use Rattle.rules.specs.Flat.{parted, buffers}
+use Rattle.laws.specs.Alone.{table-alone}
+use Rattle.laws.proofs.Usable.{usable→}
+use Rattle.laws.proofs.Tested.{caller-names}
 use Rattle.sheet.proofs.At.{at}
+use Rattle.sheet.proofs.Caller.{caller-row}
+use Rattle.remap_call.proofs.Ordered.{foreign, odd, unusable, taken, done}
 use borrow.Author.Needs.{needs}
 use Rattle.remap_call.proofs.remap.Statement.{statement}
 use Rattle.remap_call.proofs.remap.Tie as tie
 
+-- where the call began, seen from past the first test and from past the second
+abbrev start : tie.Else1 → tie.Start
+start c = let at-known = c .before in at-known .before .before .before
+
+abbrev usable-at : tie.After-is-usable → tie.Else1
+usable-at c = let at-byte = c .before .before in at-byte .before .before
+
+-- what the page test has told
+page-told : (c : tie.After-is-usable) → let a = start (usable-at c) .args in
+    c .is-usable .result ≡ usable (c .before .before .byte .result) (table-alone (now (a .table))) (page-of (a .rcx))
+unfolding page-of page-size
+page-told c = c .is-usable .ensures ∙ ap (usable (c .before .before .byte .result) _) (omega arith)
+
+new-usable : (c : tie.Else2) → let u = c .before in let a = start (usable-at u) .args in
+    usable (u .before .before .byte .result) (table-alone (now (a .table))) (page-of (a .rcx)) ≡ true
+new-usable c = sym (page-told (c .before)) ∙ not-false _ (c .if2 .left)
+
+new-below : (c : tie.Else2) → let a = start (usable-at (c .before)) .args in page-of (a .rcx) < length (now (a .table))
+unfolding N
+new-below c = usable→ _ _ _ (new-usable c) .0
+
+-- what the test of its owner has told
+owner-told : (c : tie.After-is-foreign) → let old = c .before .before in let a = start (usable-at (old .before .before .before)) .args in
+    c .is-foreign .result ≡ foreign (now (a .table)) (old .number4 .result) (page-of (a .rcx))
+unfolding page-of page-size
+owner-told c =
+    let old = c .before .before in let a = start (usable-at (old .before .before .before)) .args in
+    c .is-foreign .ensures ∙ ap (foreign (now (a .table)) (old .number4 .result)) (omega arith)
+
 returns : tie.Need-returns
-unfolding remap refuse multiple page-of usable below N table-byte owned-by vcpu record-at fields parted page-size record-size
-returns c = rw (ne-eqb _ 0 (c .if1 .taken))
+unfolding page-size
+returns c = odd _ _ _ (c .if1 .taken)
 
-returns-2 : tie.Need-returns-2
-unfolding remap refuse multiple page-of usable below N table-byte owned-by vcpu record-at fields parted page-size record-size
-returns-2 c =
-    let a = c .before .before .before .before .before .args in
-    rw (eq-eqb _ 0 (c .before .if1 .left), le-ltb (page-of (a .rcx)) (length (now (a .table))) (omega arith))
+byte-requires : tie.Need-byte-requires
+byte-requires c κs = at (caller-row (start (c .before) .pre)) _ _ (lit≤ tt)
 
-slice-read-b : tie.Need-slice-read-b
-slice-read-b c = search needs
-
-is-valid-requires : tie.Need-is-valid-requires
-is-valid-requires c κs = search needs
-
-returns-3 : tie.Need-returns-3
-unfolding remap refuse multiple page-of usable below N table-byte owned-by vcpu record-at fields parted page-size record-size
-returns-3 c =
-    let a = c .before .before .before .before .before .before .before .before .args in
-    let table = now (a .table) in
-    let says : c .before .is-valid .result ≡ valid (getD table (page-of (a .rcx)) 0) =
-    c .before .is-valid .ensures ∙ ap (λ (p : ℕ). valid (getD table p 0)) (omega arith) in
-    rw (
-      eq-eqb _ 0 (c .before .before .before .before .if1 .left),
-      lt-ltb (page-of (a .rcx)) (length table) (omega arith),
-      ← says,
-      not-true (c .before .is-valid .result) (c .if3 .taken),
-    )
-
-number4-requires : tie.Need-number4-requires
-unfolding record-size records
-number4-requires c κs =
-    let start = c .before .before .before .before .before .before .before .before .before in
-    let b : Buffers = record { memory = now (start .args .memory); table = now (start .args .table); sheet = now (start .args .sheet) } in
-    let caller = start .args .caller in
-    at (record { sized = sheet-tested b caller (start .pre); below = caller-below b caller (start .pre) }) _ _ (lit≤ tt)
-
-cast-old : tie.Need-cast-old
-cast-old c = search needs
-
-is-foreign-requires : tie.Need-is-foreign-requires
-is-foreign-requires c κs = search needs
+is-usable-requires : tie.Need-is-usable-requires
+is-usable-requires c κs = search needs
 
 same-length : tie.Need-same-length
 same-length c = search needs
 
-returns-4 : tie.Need-returns-4
-unfolding remap refuse multiple page-of usable below N table-byte owned-by vcpu record-at fields parted page-size record-size
-returns-4 c =
-    let a = c .before .before .before .before .before .before .before .before .before .before .before .before .args in
-    let table = now (a .table) in
-    let new = page-of (a .rcx) in
-    let checked = c .before .before .before .before .before .is-valid in
-    let old = c .before .before .number4 in
-    let foreign = c .before .is-foreign in
-    let says : checked .result ≡ valid (getD table new 0) = checked .ensures ∙ ap (λ (p : ℕ). valid (getD table p 0)) (omega arith) in
-    let tells : foreign .result ≡ (not (eqb (owner (getD table new 0)) plain) && not (eqb new (old .result))) =
-    foreign .ensures ∙ ap (λ (p : ℕ). not (eqb (owner (getD table p 0)) plain) && not (eqb p (old .result))) (omega arith) in
-    rw (
-      eq-eqb _ 0 (c .before .before .before .before .before .before .before .before .if1 .left),
-      lt-ltb new (length table) (omega arith),
-      ← says,
-      not-false (checked .result) (c .before .before .before .before .if3 .left),
-      ← old .ensures,
-      ← tells,
-      c .if4 .taken,
-    )
-
-move-all-requires : tie.Need-move-all-requires
-unfolding fields record-size
-move-all-requires c κs =
-    let start = c .before .before .before .before .before .before .before .before .before .before .before .before .before .before .before in
-    let b : Buffers = record { memory = now (start .args .memory); table = now (start .args .table); sheet = now (start .args .sheet) } in
-    let caller = start .args .caller in
-    record { tested = start .pre; old-below = rw (c .before .before .before .before .before .number4 .ensures) (caller-names b caller (start .pre) .calling); new-below = c .before .before .before .before .before .before .before .before .before .before .if2 .left }
-
 same-length-2 : tie.Need-same-length-2
 same-length-2 c = search needs
+
+returns-2 : tie.Need-returns-2
+unfolding page-size record-size
+returns-2 c =
+    let u = c .before in
+    unusable _ _ _ (usable-at u .if1 .left) (u .before .before .byte .ensures) (sym (page-told u) ∙ not-true _ (c .if2 .taken))
+
+number4-requires : tie.Need-number4-requires
+number4-requires c κs = at (caller-row (start (usable-at (c .before .before)) .pre)) _ _ (lit≤ tt)
+
+cast-old : tie.Need-cast-old
+cast-old c = search needs
+
+slice-read-is-foreign : tie.Need-slice-read-is-foreign
+unfolding page-of page-size
+slice-read-is-foreign c = let at-if2 = c .before .before .before in omega (arith, new-below at-if2)
+
+is-foreign-requires : tie.Need-is-foreign-requires
+is-foreign-requires c κs = search needs
 
 same-length-3 : tie.Need-same-length-3
 same-length-3 c = search needs
@@ -106,47 +92,57 @@ same-length-3 c = search needs
 same-length-4 : tie.Need-same-length-4
 same-length-4 c = search needs
 
-returns-5 : tie.Need-returns-5
-unfolding remap refuse multiple page-of usable below N table-byte owned-by vcpu record-at fields parted page-size record-size
-returns-5 c =
-    let a = c .before .before .before .before .before .before .before .before .before .before .before .before .before .before .before .before .before .before .before .before .before .before .args in
-    let table = now (a .table) in
-    let m = parted (record { memory = now (a .memory); table = table; sheet = now (a .sheet) }) in
-    let new = page-of (a .rcx) in
-    let checked = c .before .before .before .before .before .before .before .before .before .before .before .before .before .before .before .is-valid in
-    let old = c .before .before .before .before .before .before .before .before .before .before .before .before .number4 in
-    let foreign = c .before .before .before .before .before .before .before .before .before .before .before .is-foreign in
-    let says : checked .result ≡ valid (getD table new 0) = checked .ensures ∙ ap (λ (p : ℕ). valid (getD table p 0)) (omega arith) in
-    let tells : foreign .result ≡ (not (eqb (owner (getD table new 0)) plain) && not (eqb new (old .result))) =
-    foreign .ensures ∙ ap (λ (p : ℕ). not (eqb (owner (getD table p 0)) plain) && not (eqb p (old .result))) (omega arith) in
-    let moved = ap (λ (p : ℕ). remapped (a .caller) (old .result) p m) {x = new} (omega arith) ∙ c .before .before .before .before .before .before .move-all .ensures in
-    rw (
-      eq-eqb _ 0 (c .before .before .before .before .before .before .before .before .before .before .before .before .before .before .before .before .before .before .if1 .left),
-      lt-ltb new (length table) (omega arith),
-      ← says,
-      not-false (checked .result) (c .before .before .before .before .before .before .before .before .before .before .before .before .before .before .if3 .left),
-      ← old .ensures,
-      ← tells,
-      c .before .before .before .before .before .before .before .before .before .before .if4 .left,
-    )
-    (λ i. record { answer = Success; after = moved i })
+returns-3 : tie.Need-returns-3
+unfolding page-size record-size
+returns-3 c =
+    let old = c .before .before .before in let at-if2 = old .before .before in let u = at-if2 .before in
+    taken _ _ _ (usable-at u .if1 .left) (u .before .before .byte .ensures) (new-usable at-if2) (old .number4 .ensures) (sym (owner-told (c .before)) ∙ c .if3 .taken)
+
+move-all-requires : tie.Need-move-all-requires
+unfolding fields record-size page-of page-size
+move-all-requires c κs =
+    let at-if3 = c .before .before .before in let old = at-if3 .before .before .before in let at-if2 = old .before .before in
+    let tested = start (usable-at (at-if2 .before)) .pre in
+    record { tested = tested; old-below = rw (old .number4 .ensures) (caller-names _ _ tested .calling); new-below = omega (arith, new-below at-if2) }
+
+same-length-5 : tie.Need-same-length-5
+same-length-5 c = search needs
+
+same-length-6 : tie.Need-same-length-6
+same-length-6 c = search needs
+
+same-length-7 : tie.Need-same-length-7
+same-length-7 c = search needs
+
+returns-4 : tie.Need-returns-4
+unfolding page-of page-size record-size
+returns-4 c =
+    let at-table = c .before .before .before in let at-move-all = at-table .before .before .before in
+    let at-arg = at-move-all .before .before in let at-if3 = at-arg .before .before in
+    let old = at-if3 .before .before .before in let at-if2 = old .before .before in let u = at-if2 .before in let a = start (usable-at u) .args in
+    let m = parted (buffers (now (a .memory)) (now (a .table)) (now (a .sheet))) in
+    let moved = ap (λ (p : ℕ). remapped (a .caller) (old .number4 .result) p m) {x = page-of (a .rcx)} (omega arith) ∙ at-move-all .move-all .ensures in
+    done _ _ _ (usable-at u .if1 .left) (u .before .before .byte .ensures) (new-usable at-if2) (old .number4 .ensures) (sym (owner-told (at-if3 .before)) ∙ at-if3 .if3 .left) moved
 
 pub remap-spec : {M : Type 1} → statement M
 remap-spec =
     tie.close
     (tie.spec
     returns
+    byte-requires
+    is-usable-requires
+    same-length
+    same-length-2
     returns-2
-    slice-read-b
-    is-valid-requires
-    returns-3
     number4-requires
     cast-old
+    slice-read-is-foreign
     is-foreign-requires
-    same-length
-    returns-4
-    move-all-requires
-    same-length-2
     same-length-3
     same-length-4
-    returns-5)
+    returns-3
+    move-all-requires
+    same-length-5
+    same-length-6
+    same-length-7
+    returns-4)

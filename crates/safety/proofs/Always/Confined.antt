@@ -30,7 +30,7 @@ use Rattle.laws.proofs.Records.{is-live-zeros}
 use Rattle.safety.specs.Terms.{Confined}
 use Rattle.safety.specs.Statements.{On-machines, Confinement-law}
 use Rattle.safety.proofs.Branches.{on-test, on-refuse, past, on-handle}
-use Rattle.safety.proofs.Change.{change-sheet}
+use Rattle.laws.proofs.Change.{change-sheet}
 use Rattle.safety.proofs.Effects.{three-changed, carry-out-table, carry-out-sheet, entry-sheet, remapped-sheet, created-table, created-sheet}
 use Rattle.safety.proofs.Effects.{deleted-table, deleted-sheet}
 use Rattle.safety.proofs.Entries.{Keeps, within-keeps}

@@ -27,7 +27,7 @@ use Rattle.laws.proofs.Ranges.{by-test}
 use Rattle.laws.proofs.Records.{is-live-laid-out, is-live-remapped}
 use Rattle.safety.specs.Terms.{unreal, svme-cleared, changed-byte, left-table, Left-by-gone}
 use Rattle.safety.specs.Statements.{On-machines, Gone-law}
-use Rattle.safety.proofs.Change.{change-puts}
+use Rattle.laws.proofs.Change.{change-puts}
 use Rattle.safety.proofs.Effects.{three-changed, written-elsewhere, remapped-sheet, created-sheet, deleted-sheet, deleted-table, deleted-memory, withdrawn-sheet}
 use Rattle.safety.proofs.Entries.{run-within-sheet}
 use Rattle.safety.proofs.Branches.{never, on-handle, called-real, real-call}

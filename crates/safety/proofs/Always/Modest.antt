@@ -18,7 +18,7 @@ use Rattle.rules.specs.Machine.{fields, is-live, record-at, vcpu, amend}
 use Rattle.rules.specs.Lists.{wished}
 use Rattle.laws.proofs.Ranges.{by-test}
 use Rattle.laws.proofs.TableByte.{permitted-grant, permitted-revoke, permitted-own, permitted-make-valid, permitted-make-invalid}
-use Rattle.safety.proofs.Change.{change-same, change-other, change-sheet, change-puts, puts-out}
+use Rattle.laws.proofs.Change.{change-same, change-other, change-sheet, change-puts, puts-out}
 use Rattle.safety.proofs.Effects.{three-changed}
 use Rattle.safety.proofs.Branches.{on-test}
 

@@ -16,7 +16,7 @@ use Rattle.laws.proofs.Numbers.{length-zeros}
 use Rattle.laws.proofs.Records.{length-laid-out}
 use Rattle.safety.specs.Statements.{Sizes-kept}
 use Rattle.safety.proofs.Branches.{on-test, past}
-use Rattle.safety.proofs.Change.{put-puts}
+use Rattle.laws.proofs.Change.{put-puts}
 use Rattle.safety.proofs.Entries.{Keeps, within-keeps}
 use Rattle.safety.proofs.Checks.{past-remap, past-list, past-create, past-delete, past-withdraw}
 use Rattle.safety.proofs.Keeping.{Each-keeps, called-keeps}

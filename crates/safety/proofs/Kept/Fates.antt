@@ -15,7 +15,7 @@ use Rattle.rules.specs.Runs.{in-pool}
 use Rattle.laws.proofs.Ranges.{by-test}
 use Rattle.laws.proofs.TableByte.{owner-own}
 use Rattle.safety.specs.Terms.{Same-page}
-use Rattle.safety.proofs.Change.{change-puts, puts-page, change-same}
+use Rattle.laws.proofs.Change.{change-puts, puts-page, change-same}
 use Rattle.safety.proofs.Effects.{owned-below}
 use Rattle.safety.proofs.Branches.{on-test}
 use Rattle.safety.proofs.Checks.{Remap-fit, past-remap, Create-fit, past-create, past-delete}

@@ -11,7 +11,7 @@ use Rattle.rules.specs.Machine.{Lent, N, owner, pool-free, pool-in-use, table-b
 use Rattle.rules.specs.Runs.{in-pool, pool}
 use Rattle.laws.proofs.Ranges.{by-test}
 use Rattle.laws.proofs.Counts.{one, count-set}
-use Rattle.safety.proofs.Change.{Puts, change-puts, puts-out}
+use Rattle.laws.proofs.Change.{Puts, change-puts, puts-out}
 
 -- an owner of the pool's pages
 unfoldable pub pooled : ℕ → Bool

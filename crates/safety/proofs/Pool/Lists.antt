@@ -20,7 +20,7 @@ use Rattle.rules.specs.Runs.{in-pool, pool, pages-listed}
 use Rattle.laws.proofs.Ranges.{by-test, each-same}
 use Rattle.laws.proofs.Counts.{count-range-up}
 use Rattle.laws.proofs.TableByte.{byte·simp, owner-own}
-use Rattle.safety.proofs.Change.{change-puts}
+use Rattle.laws.proofs.Change.{change-puts}
 use Rattle.safety.proofs.Effects.{carry-out-table, entry-sheet, carried-puts}
 use Rattle.safety.proofs.Entries.{wish-of, fits-plain, Read, entry-read, within-keeps}
 use Rattle.safety.proofs.Checks.{past-list}

@@ -10,7 +10,7 @@ use Rattle.rules.specs.Calls.{remapped, remap, Asked, free-page, created, creat
 use Rattle.rules.specs.Runs.{pool}
 use Rattle.laws.proofs.Ranges.{by-test}
 use Rattle.laws.proofs.TableByte.{owner-own, owner-grant}
-use Rattle.safety.proofs.Change.{change-other}
+use Rattle.laws.proofs.Change.{change-other}
 use Rattle.safety.proofs.Effects.{three-changed, created-table, deleted-table}
 use Rattle.safety.proofs.Branches.{on-test}
 use Rattle.safety.proofs.Checks.{Remap-fit, past-remap, Create-fit, pool-apart, past-create, past-delete}

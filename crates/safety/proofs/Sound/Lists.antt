@@ -15,7 +15,7 @@ use Rattle.rules.specs.Machine.{is-live, record-at, vcpu, startup}
 use Rattle.rules.specs.Sound.{claims, agrees}
 use Rattle.rules.specs.Lists.{store-index, wished, cleared, carry-out, carry-out-all, list-call}
 use Rattle.laws.proofs.TableByte.{byte·simp}
-use Rattle.safety.proofs.Change.{put-puts}
+use Rattle.laws.proofs.Change.{put-puts}
 use Rattle.safety.proofs.Effects.{same-startup, carry-out-other, carry-out-sheet, entry-sheet}
 use Rattle.safety.proofs.Entries.{fits, fits-plain, Keeps, within-keeps}
 use Rattle.safety.proofs.Checks.{past-list}

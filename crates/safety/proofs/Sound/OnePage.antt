@@ -13,7 +13,7 @@ use Rattle.rules.specs.Machine.{record-at, vcpu, startup}
 use Rattle.rules.specs.Sound.{claims, agrees, well-permitted, live-fault, record-fault, table-sized, pages-sized}
 use Rattle.laws.proofs.Ranges.{by-test}
 use Rattle.laws.proofs.TableByte.{byte·simp, owner-own, valid-own, permitted-own, permissions-own}
-use Rattle.safety.proofs.Change.{Puts, change-puts, puts-same, puts-other, puts-N}
+use Rattle.laws.proofs.Change.{Puts, change-puts, puts-same, puts-other, puts-N}
 use Rattle.safety.proofs.Effects.{same-startup}
 use Rattle.safety.proofs.Sound.Facts.{Page-right, Sound}
 use Rattle.safety.proofs.Sound.Sizes.{written-sized, filled-sized, sizes-of, puts-sized}

@@ -14,7 +14,7 @@ use Rattle.rules.specs.Sound.{claim, claims, agrees, pages-sized}
 use Rattle.rules.specs.Calls.{remapped, remap}
 use Rattle.laws.proofs.Ranges.{by-test}
 use Rattle.laws.proofs.Records.{fields-remapped, is-live-remapped, holds-remapped}
-use Rattle.safety.proofs.Change.{change-sheet, change-memory, change-N, change-byte}
+use Rattle.laws.proofs.Change.{change-sheet, change-memory, change-N, change-byte}
 use Rattle.safety.proofs.Checks.{past-remap}
 use Rattle.safety.proofs.Sound.Facts.{Page-right, Sound}
 use Rattle.safety.proofs.Sound.Sizes.{few-pages, in-sheet, record-length, pages-kept}

@@ -13,7 +13,7 @@ use Rattle.rules.specs.Sound.{table-sized, pages-sized}
 use Rattle.laws.proofs.Numbers.{length-zeros}
 use Rattle.laws.proofs.Ranges.{every→}
 use Rattle.safety.proofs.Small.{every-set}
-use Rattle.safety.proofs.Change.{Puts, change-puts, puts-N}
+use Rattle.laws.proofs.Change.{Puts, change-puts, puts-N}
 use Rattle.safety.proofs.Sound.Facts.{Sound}
 
 -- ---- table and sheet

@@ -9,7 +9,8 @@ use lib.ListN.{getD, set, length-set}
 use lib.Seq.{set-out, getD-set-same, getD-set-other}
 use borrow.Author.Tests.{eqb-true, eqb-false}
 use Rattle.rules.specs.Machine.{Lent, N, page-at, table-byte, put, change}
+use Rattle.laws.specs.Revised.{revise}
 use Rattle.laws.proofs.Ranges.{by-test}
 
 -- byte b is put at page p, and nothing else happens
 pub record Puts (p b : ℕ) (m after : Lent) : Type 0 where
@@ -66,6 +67,11 @@ module _ (f : ℕ → ℕ) (q : ℕ) (m : Lent) where
   pub change-N : N (change f q m) ≡ N m
   change-N = puts-N (change-puts f q m)
 
+  -- the table
+  pub change-table : change f q m .table ≡ revise f 0 q (m .table)
+  unfolding revise table-byte
+  change-table = change-puts f q m .table
+
   -- the same memory
   pub change-memory : change f q m .memory ≡ m .memory
   change-memory = change-puts f q m .memory
@@ -83,5 +89,4 @@ module _ (f : ℕ → ℕ) (q : ℕ) (m : Lent) where
 
 -- machines of one table have one after it
 pub change-alike : (f : ℕ → ℕ) (q : ℕ) (m m′ : Lent) → m .table ≡ m′ .table → change f q m .table ≡ change f q m′ .table
-unfolding table-byte
-change-alike f q m m′ e = change-puts f q m .table ∙ ap (λ table. set table q (f (getD table q 0))) e ∙ sym (change-puts f q m′ .table)
+change-alike f q m m′ e = change-table f q m ∙ ap (revise f 0 q) e ∙ sym (change-table f q m′)
