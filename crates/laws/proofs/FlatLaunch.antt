@@ -2,7 +2,7 @@
 use mathlib.Core.Path.{_≡_, refl, sym, _∙_, ap}
 use mathlib.Core.Bool.{Bool, true, false, _&&_, _||_, and-eq-true-iff}
 use mathlib.Core.List.{List, [], _∷_}
-use Prim.Native.Nat.{ℕ, _+_, _<_}
+use Prim.Native.Nat.{ℕ, _*_, _+_, _<_}
 use lib.Dec.{leb, ltb, eqb}
 use borrow.Author.Tests.{leb-false, eq-eqb}
 use lib.ListN.{length}
@@ -30,9 +30,9 @@ unfolding well-sized memory-sized sheet-sized
 same-sizes b a m t s = rw (m, t, s)
 
 -- as the code tests it
-pub well-sized-by : (b : Buffers) → memory-fits (length (b .table)) (length (b .memory)) ≡ true → length (b .sheet) ≡ 512 → well-sized b ≡ true
-unfolding well-sized memory-sized sheet-sized record-size records
-well-sized-by b fits s = rw (fits, eq-eqb _ 512 s)
+pub well-sized-by : (b : Buffers) → memory-fits (length (b .table)) (length (b .memory)) ≡ true → length (b .sheet) ≡ record-size * records → well-sized b ≡ true
+unfolding well-sized memory-sized sheet-sized
+well-sized-by b fits s = rw (fits, eq-eqb _ (record-size * records) s)
 
 -- a plan in range names pages below n
 pub in-range : (plan : Plan) (n : ℕ) → out-of-range plan n ≡ false → (plan .vmsa < n) × (plan .calling < n)

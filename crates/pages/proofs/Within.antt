@@ -12,6 +12,5 @@ pub positive : 0 < page-size
 unfolding page-size
 positive = lit< tt
 
-pub page-ends : (memory : List ℕ) (page : ℕ) → page < length (parts page-size memory) → 4096 * page + 4096 ≤ length memory
-unfolding page-size
+pub page-ends : (memory : List ℕ) (page : ℕ) → page < length (parts page-size memory) → page-size * page + page-size ≤ length memory
 page-ends memory page h = part-within page-size memory page positive h

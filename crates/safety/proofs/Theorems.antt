@@ -7,7 +7,7 @@ use Rattle.rules.specs.Machine.{Lent, is-live, record-at}
 use Rattle.rules.specs.Runs.{run-steps}
 use Rattle.safety.specs.Statements.{Demand-3, Sound-means, Launched-sound, Stays-sound, Sealed, Monitor-kept, Vmsa-kept, Pool-kept, Step-counted}
 use Rattle.safety.specs.Statements.{Run-counted}
-use Rattle.safety.specs.Statements.{Counted-from-launch, At-most, At-most-twelve, All-come-back, Unreal-changes-nothing, Unreal-changes-no-byte}
+use Rattle.safety.specs.Statements.{Counted-from-launch, At-most, All-come-back, Unreal-changes-nothing, Unreal-changes-no-byte}
 use Rattle.safety.specs.Statements.{Gone-law, Gone-leaves, Refusal-law, Refusal-leaves, Validation-law, Validated-once-a-call, Revalidation-law}
 use Rattle.safety.specs.Statements.{Revalidated-by-leave, Passed-law, Passed-and-no-more, Validated-once, Second-validation-refused}
 use Rattle.safety.specs.Statements.{Validated-pages-zero, Carried-out, Confinement-law, Calls-confined, Sizes-kept, Calls-on-bytes, Launched-on-bytes, Runs-on-bytes}
@@ -106,10 +106,6 @@ counted-from-launch = counted-from-launch-by stays-sound launched-sound
 pub at-most : At-most
 unfolding At-most Stays-sound
 at-most ss m e = InUse.at-most (run-steps ss m .lent) (stays-sound ss m e)
-
-pub at-most-twelve : At-most-twelve
-unfolding At-most-twelve Stays-sound
-at-most-twelve ss m e = InUse.at-most-twelve (run-steps ss m .lent) (stays-sound ss m e)
 
 -- 6
 pub all-come-back : All-come-back

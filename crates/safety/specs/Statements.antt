@@ -41,7 +41,7 @@ pub record Kept-by (a : Act) (b : Buffers) : Type 0 where
       → Same-page p (parted b) (parted (act a b)) × (in-pool (table-byte (parted (act a b)) p) ≡ true)
 
 -- what holds of the bytes after these acts: N as launch was told, the sizes right, and the machine that they are sound; sealed, no VMPL has any permission on a page
--- of owner 2 to 5; kept by any next act; every page of the pool accounted for; at most twelve in use; and the free ones all come back, in as many rounds as they need
+-- of owner 2 to 5; kept by any next act; every page of the pool accounted for; at most as many in use as records need one, twelve; and the free ones all come back, in as many rounds as they need
 pub record Holds (n : ℕ) (start : Buffers) (done : List Act) : Type 0 where
   pub size : length (acts done start .table) ≡ n
   pub sized : well-sized (acts done start) ≡ true
@@ -50,7 +50,7 @@ pub record Holds (n : ℕ) (start : Buffers) (done : List Act) : Type 0 where
       → permitted c (table-byte (parted (acts done start)) p) ≡ false
   pub kept : (next : Act) → Kept-by next (acts done start)
   pub counted : pool (parted (acts done start)) + over-acts act-given-back done start ≡ over-acts act-taken-in done start
-  pub at-most-twelve : in-use (parted (acts done start)) ≤ 12
+  pub at-most : in-use (parted (acts done start)) ≤ records - records-without-pool
   pub come-back : (others : ℕ → Registers) →
       let now = acts done start in
       let ways = withdrawal-acts (rounds (parted now)) others (parted now) in
@@ -115,12 +115,9 @@ Counted-from-launch =
     (plan : Plan) (m : Machine) (ss : List Step) → table-sized (m .lent) ≡ true → pages-sized (m .lent) ≡ true → launch plan m .answer ≡ Made
     → pool (run-steps ss (launch plan m .after) .lent) + over-run given-back ss (launch plan m .after) ≡ over-run taken-in ss (launch plan m .after)
 
--- 5. At most: after any run, the pages in use of the pool are no more than the records that need one
+-- 5. At most: after any run, the pages in use of the pool are no more than the records that need one, twelve
 unfoldable pub At-most : Type 0
 At-most = (ss : List Step) (m : Machine) → sound (m .lent) ≡ true → in-use (run-steps ss m .lent) ≤ records - records-without-pool
-
-unfoldable pub At-most-twelve : Type 0
-At-most-twelve = (ss : List Step) (m : Machine) → sound (m .lent) ≡ true → in-use (run-steps ss m .lent) ≤ 12
 
 -- 6. All come back: in so many rounds, each a store and a Withdraw by the startup vCPU
 unfoldable pub All-come-back : Type 0

@@ -21,7 +21,7 @@ use Rattle.safety.proofs.Sound.Said.{said}
 use Rattle.safety.proofs.Keeping.{run-keeps}
 use Rattle.safety.proofs.Sound.Rows.{startup-lives, calling-below}
 use Rattle.safety.proofs.Kept.Sealed.{sealed-now}
-use Rattle.safety.proofs.Pool.InUse.{at-most-twelve}
+use Rattle.safety.proofs.Pool.InUse.{at-most}
 use Rattle.safety.proofs.Bytes.Sizes.{each-sized-call}
 use Rattle.safety.proofs.Bytes.Steps.{launch-sound, launch-empty, launch-size}
 use Rattle.safety.proofs.Bytes.Door.{cut, length-registers, asking-back, asks-as}
@@ -102,7 +102,7 @@ module _ (parts : Parts) where
           sealed = sealed-now (parted (acts done start)) (now .1);
           kept = λ next. kept-by next (acts done start) (go .stays-sound);
           counted = rw (go .reached) (omega (arith, go .given, go .taken, empty, parts .run-counted (map meant done) (machine start) (sound-both start e .1)));
-          at-most-twelve = at-most-twelve (parted (acts done start)) (now .1);
+          at-most = at-most (parted (acts done start)) (now .1);
           come-back = λ others. come-back others (acts done start) (go .stays-sound);
         }
 

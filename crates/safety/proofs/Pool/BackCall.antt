@@ -41,7 +41,7 @@ list-offset k = omega arith
 
 list-multiple : (k : ℕ) → multiple 8 (page-size * k + 8) ≡ true
 unfolding multiple page-size
-list-multiple k = eq-eqb ((4096 * k + 8) % 8) 0 (omega arith)
+list-multiple k = eq-eqb ((page-size * k + 8) % 8) 0 (omega arith)
 
 -- the call is a Withdraw
 pub asks-withdraw : (m : Lent) (g : Registers) → (protocol (asking m g) ≡ 0) × (call-number (asking m g) ≡ 5)

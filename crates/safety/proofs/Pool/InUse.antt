@@ -151,8 +151,3 @@ module _ (m : Lent) (s : sound m ≡ true) where
       let onto = count-onto test 0 (λ p. exists (λ r. keeps-page r p) (m .sheet)) 0 (m .table) (λ i h t. rw zero-add (in-use-kept-by i h t)) in
       let named = count-named keeps-page keeps (range 0 (N m)) (λ r. one-page (keeps r) (fields r .pool) 0 (N m)) (m .sheet) in
       omega (arith, onto, named, count-late keeps [] records-without-pool (m .sheet) first-keep-none, sheet-length m (open-sound m s .tables))
-
-  -- and its number
-  pub at-most-twelve : in-use m ≤ 12
-  unfolding records records-without-pool
-  at-most-twelve = at-most

@@ -164,7 +164,7 @@ index-fits : (budget rcx to : ℕ) (m : Lent) → bad-count rcx m ≡ false → 
 unfolding bad-count bad-next page-size
 index-fits budget rcx to m e f h =
     let n = list-count rcx m in
-    let few = ltb-false 4096 (offset-of rcx + 8 + 8 * n) (or-false (eqb n 0) (ltb 4096 (offset-of rcx + 8 + 8 * n)) e .1) in
+    let few = ltb-false page-size (offset-of rcx + 8 + 8 * n) (or-false (eqb n 0) (ltb page-size (offset-of rcx + 8 + 8 * n)) e .1) in
     omega (arith, leb-false n (list-next rcx m) f)
 
 -- the list's numbers are read from memory

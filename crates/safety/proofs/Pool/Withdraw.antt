@@ -93,12 +93,12 @@ module _ (vmpl rcx : ℕ) (m : Lent) where
   -- no more pages than two bytes can count
   withdrawn-few : length (withdrawn-pages rcx m) < 256 ^ 2
   unfolding withdrawn-pages page-size
-  withdrawn-few = omega (arith, length-take ((4096 - offset-of rcx - 8) / 8) (places is-free 0 (m .table)))
+  withdrawn-few = omega (arith, length-take ((page-size - offset-of rcx - 8) / 8) (places is-free 0 (m .table)))
 
   -- and they have room in the page
   withdrawn-room : offset-of rcx % 8 ≡ 0 → offset-of rcx + 8 + 8 * length (withdrawn-pages rcx m) ≤ page-size
   unfolding withdrawn-pages page-size
-  withdrawn-room e = omega (arith, length-take ((4096 - offset-of rcx - 8) / 8) (places is-free 0 (m .table)), offset-below rcx)
+  withdrawn-room e = omega (arith, length-take ((page-size - offset-of rcx - 8) / 8) (places is-free 0 (m .table)), offset-below rcx)
 
   -- the count is read where it was written
   pub withdrawn-count : page-of rcx < length (m .memory) → offset-of rcx + 2 ≤ length (page-at m (page-of rcx))

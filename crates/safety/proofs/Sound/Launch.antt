@@ -2,7 +2,7 @@
 use mathlib.Core.Path.{_≡_, refl, sym, _∙_, ap}
 use mathlib.Core.Bool.{Bool, true, false, cond, not, _||_, true≢false, and-eq-true-iff}
 use mathlib.Core.List.{List, [], _∷_, _++_, map, append-nil}
-use Prim.Native.Nat.{ℕ, zero, suc, _+_, _-_, _<_, _≤_}
+use Prim.Native.Nat.{ℕ, zero, suc, _+_, _-_, _^_, _<_, _≤_}
 use native.Mathlib.Omega.{arith}
 use native.Mathlib.Nat.{zero-add}
 use lib.Dec.{eqb, ltb, leb}
@@ -86,9 +86,9 @@ module _ (plan : Plan) (l : Lent) (tables : table-sized l ≡ true) (memories : 
   unfolding unfit-vmsa
   vmpl-fit = not-false _ (or-false (not (between 1 3 (vmsa-vmpl page))) (not (bit 12 (efer page))) fit .0)
 
-  small : N l ≤ 8192
+  small : N l ≤ 256 ^ 4
   unfolding most-pages
-  small = few-pages l tables
+  small = omega (arith, few-pages l tables)
 
   -- the sizes
   same-N : N base ≡ N l

@@ -16,9 +16,11 @@ use Rattle.pages.proofs.memory.fill_page.Statement.{statement}
 use Rattle.pages.proofs.memory.fill_page.Tie as tie
 
 mul-start : tie.Need-mul-start
+unfolding page-size
 mul-start c = omega (arith, page-ends (now (c .before .args .memory)) (c .before .args .page) (c .before .pre))
 
 add-end : tie.Need-add-end
+unfolding page-size
 add-end c = omega (arith, page-ends (now (c .before .args .memory)) (c .before .args .page) (c .before .pre))
 
 sub-fill : tie.Need-sub-fill
@@ -28,6 +30,7 @@ part-fill-start : tie.Need-part-fill-start
 part-fill-start c = search needs
 
 part-fill-end : tie.Need-part-fill-end
+unfolding page-size
 part-fill-end c = omega (arith, page-ends (now (c .before .args .memory)) (c .before .args .page) (c .before .pre))
 
 fill-requires : tie.Need-fill-requires
@@ -43,8 +46,8 @@ returns c =
     let memory = now (start .args .memory) in
     let page = start .args .page in
     let ends = page-ends memory page (start .pre) in
-    let size : 4096 * page + 4096 - 4096 * page ≡ 4096 = omega arith in
-    let filled = c .before .before .fill .ensures ∙ ap zeros (mid-len (4096 * page) (4096 * page + 4096) memory ends ∙ size) in
+    let size : page-size * page + page-size - page-size * page ≡ page-size = omega arith in
+    let filled = c .before .before .fill .ensures ∙ ap zeros (mid-len (page-size * page) (page-size * page + page-size) memory ends ∙ size) in
     rw (filled, size) (parts-put page-size memory page (zeros page-size) positive (start .pre) (length-zeros page-size))
 
 pub fill-page-spec : {M : Type 1} → statement M
