@@ -9,7 +9,7 @@ use Rattle.rules.specs.declared.Outcome.the-variants.{NoCall, BadMachine}
 use Rattle.rules.specs.Answers.{Answered, refuse}
 use Rattle.rules.specs.Machine.{Machine}
 use Rattle.rules.specs.Call.{Posed, bad-machine, no-call, handle, finish, call}
-use Rattle.rules.specs.Flat.{Buffers, parted, joined, well-sized, call-bytes}
+use Rattle.rules.specs.Flat.{Buffers, parted, well-sized, call-bytes}
 use Rattle.laws.specs.Tested.{Tested}
 use Rattle.laws.proofs.FlatLaunch.{joined-parted}
 

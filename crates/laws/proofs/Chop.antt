@@ -4,7 +4,7 @@ use mathlib.Core.Path.{_≡_, refl, sym, _∙_, ap}
 use mathlib.Core.List.{List, [], _∷_, _++_, append-assoc, append-nil}
 use Prim.Native.Nat.{ℕ, zero, suc, _+_, _*_, _<_, _≤_}
 use native.Mathlib.Omega.{arith}
-use native.Mathlib.Nat.{zero-add, add-zero, add-suc, add-comm, add-assoc, mul-zero, mul-suc, mul-le-mul-left}
+use native.Mathlib.Nat.{zero-add, add-zero, add-suc, add-comm, add-assoc, mul-zero, mul-suc}
 use lib.ListN.{length, getD, take, drop, set, take-append-drop, length-drop, drop-of-length-le}
 use lib.Seq.{sets, sets-eq, length-take-le, take-at, drop-at, drop-drop, take-set-lt, take-set-le, drop-set-lt, drop-set-add}
 use lib.Seq.{getD-take, getD-drop, getD-set-same, set-getD, set-set}

@@ -7,13 +7,13 @@ use Prim.Native.Nat.{ℕ, zero, suc, _+_, _<_, _≤_}
 use native.Mathlib.Omega.{arith}
 use borrow.Author.Tests.{ltb-false, lt-ltb, eqb-true, eqb-false, eq-eqb, ne-eqb}
 use lib.Dec.{ltb, eqb, leb·suc-zero, leb·suc-suc, eqb·suc-zero, eqb·suc-suc}
-use lib.ListN.{length, getD, take, set, length-set, List·getD-eq-default}
+use lib.ListN.{length, getD, take, set, length-set}
 use lib.Seq.{getD-set-same, getD-set-other}
 use Rattle.rules.specs.Words.{range, every, exists, count, places, each}
 use Rattle.rules.specs.Machine.{Lent, table-byte, change}
 use Rattle.laws.specs.Revised.{revise}
 use Rattle.laws.proofs.Change.{change-table, change-memory, change-sheet}
-use Rattle.laws.proofs.Ranges.{by-test, length-range, range-snoc, exists-range, each-part, each-same, Rising, none, more, rising-take, rising-range}
+use Rattle.laws.proofs.Ranges.{by-test, length-range, range-snoc, each-part, each-same, Rising, none, more, rising-take, rising-range}
 use Rattle.laws.proofs.Ranges.{rising-places, rising→every, rising→absent, rising→outside}
 
 -- what an element adds to a count
@@ -95,11 +95,6 @@ count-agree test test′ (more p a b r) e = rw (e p a, count-agree test test′ 
 -- ---- a list's elements at the places of a rising list, each changed by f
 
 module _ {A : Type 0} (f : A → A) (d : A) where
-  -- as many elements as before
-  pub length-revised : (ps : List ℕ) (xs : List A) → length (each (revise f d) ps xs) ≡ length xs
-  unfolding revise
-  length-revised = each-same length (revise f d) (λ p xs. length-set xs p (f (getD xs p d)))
-
   -- an element whose place is not of the list is as it was
   pub getD-not-revised : (ps : List ℕ) (xs : List A) (i : ℕ) → exists (eqb i) ps ≡ false → getD (each (revise f d) ps xs) i d ≡ getD xs i d
   unfolding each exists revise
@@ -143,10 +138,6 @@ module _ (f : ℕ → ℕ) (effect : ℕ → Lent → Lent) (changes : (p : ℕ)
   pub table-each : (ps : List ℕ) (m : Lent) → each effect ps m .table ≡ each (revise f 0) ps (m .table)
   table-each = each-part (λ m. m .table) effect (revise f 0) (λ p m. changes p m ∙ change-table f p m)
 
-  -- as long as before
-  pub length-table-each : (ps : List ℕ) (m : Lent) → length (each effect ps m .table) ≡ length (m .table)
-  length-table-each ps m = ap length (table-each ps m) ∙ length-revised f 0 ps (m .table)
-
   -- the byte of a page of the list is changed by f
   pub table-byte-each : {low high : ℕ} {ps : List ℕ} → Rising low high ps → (m : Lent) (p : ℕ) → exists (eqb p) ps ≡ true → p < length (m .table)
       → table-byte (each effect ps m) p ≡ f (table-byte m p)
@@ -157,12 +148,6 @@ module _ (f : ℕ → ℕ) (effect : ℕ → Lent → Lent) (changes : (p : ℕ)
   pub table-byte-each-other : (ps : List ℕ) (m : Lent) (p : ℕ) → exists (eqb p) ps ≡ false → table-byte (each effect ps m) p ≡ table-byte m p
   unfolding table-byte
   table-byte-each-other ps m p e = rw table-each (getD-not-revised f 0 ps (m .table) p e)
-
-  -- past the table's end nothing is there, before and after
-  pub table-byte-each-beyond : (ps : List ℕ) (m : Lent) (p : ℕ) → length (m .table) ≤ p → table-byte (each effect ps m) p ≡ table-byte m p
-  unfolding table-byte
-  table-byte-each-beyond ps m p h =
-      List·getD-eq-default (each effect ps m .table) 0 (rw length-table-each h) ∙ sym (List·getD-eq-default (m .table) 0 h)
 
   -- the count after it: less the pages of the list that passed before, plus those that pass after
   pub count-each : (test : ℕ → Bool) {low high : ℕ} {ps : List ℕ} → Rising low high ps → (m : Lent) → high ≤ length (m .table)
@@ -188,14 +173,6 @@ module _ (f : ℕ → ℕ) (effect : ℕ → Lent → Lent) (changes : (p : ℕ)
 
   -- the same over the n pages from `first` on
   module _ (first n : ℕ) (m : Lent) where
-    -- the byte of a page of the range is changed by f
-    pub table-byte-range : (p : ℕ) → first ≤ p → p < first + n → p < length (m .table) → table-byte (each effect (range first n) m) p ≡ f (table-byte m p)
-    table-byte-range p l h k = table-byte-each (rising-range first n) m p (exists-range first n p l h) k
-
-    -- the byte of a page outside is as it was
-    pub table-byte-range-other : (p : ℕ) → (first ≤ p → first + n ≤ p) → table-byte (each effect (range first n) m) p ≡ table-byte m p
-    table-byte-range-other p h = table-byte-each-other (range first n) m p (rising→outside p (rising-range first n) h)
-
     -- each page of the range failed before and passes after: the count goes up by n
     pub count-range-up : (test : ℕ → Bool) → first + n ≤ length (m .table)
         → ((p : ℕ) → first ≤ p → p < first + n → test (table-byte m p) ≡ false)
@@ -204,15 +181,6 @@ module _ (f : ℕ → ℕ) (effect : ℕ → Lent → Lent) (changes : (p : ℕ)
     count-range-up test h before after =
         let r = rising-range first n in
         omega (arith, length-range first n, count-each-up test r m h (rising→absent _ r before) (rising→every _ r after))
-
-    -- each passed before and fails after: it goes down by n
-    pub count-range-down : (test : ℕ → Bool) → first + n ≤ length (m .table)
-        → ((p : ℕ) → first ≤ p → p < first + n → test (table-byte m p) ≡ true)
-        → ((p : ℕ) → first ≤ p → p < first + n → test (f (table-byte m p)) ≡ false)
-        → count test (each effect (range first n) m .table) + n ≡ count test (m .table)
-    count-range-down test h before after =
-        let r = rising-range first n in
-        omega (arith, length-range first n, count-each-down test r m h (rising→every _ r before) (rising→absent _ r after))
 
 -- the single-page change, on however many pages, leaves the memory as it was
 pub memory-each : (f : ℕ → ℕ) (ps : List ℕ) (m : Lent) → each (change f) ps m .memory ≡ m .memory

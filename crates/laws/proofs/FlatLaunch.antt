@@ -1,7 +1,6 @@
 -- Launch on flat bytes: where it is refused nothing changes, and where it is made the buffers are those whose parts are the new machine.
-use mathlib.Core.Path.{_≡_, refl, sym, _∙_, ap}
-use mathlib.Core.Bool.{Bool, true, false, _&&_, _||_, and-eq-true-iff}
-use mathlib.Core.List.{List, [], _∷_}
+use mathlib.Core.Path.{_≡_}
+use mathlib.Core.Bool.{true, false, _&&_, _||_, and-eq-true-iff}
 use Prim.Native.Nat.{ℕ, _*_, _+_, _<_}
 use lib.Dec.{leb, ltb, eqb}
 use borrow.Author.Tests.{leb-false, eq-eqb}
@@ -9,9 +8,9 @@ use lib.ListN.{length}
 use Rattle.rules.specs.Words.{record-size, records}
 use Rattle.rules.specs.declared.Plan.{Plan}
 use Rattle.rules.specs.declared.Launched.the-variants.{Made, WrongSize, OutOfRange, AreasMeet, UnfitVmsa}
-use Rattle.rules.specs.Answers.{Answered, refuse}
-use Rattle.rules.specs.Machine.{Lent, N, page-at, write, with-memory}
-use Rattle.rules.specs.Launch.{out-of-range, areas-meet, unfit-vmsa, launch-table, launch-sheet, made, launch}
+use Rattle.rules.specs.Answers.{refuse}
+use Rattle.rules.specs.Machine.{N, page-at}
+use Rattle.rules.specs.Launch.{out-of-range, areas-meet, unfit-vmsa, made, launch}
 use Rattle.rules.specs.Flat.{Buffers, parted, joined, memory-fits, memory-sized, sheet-sized, well-sized, launch-bytes}
 use Rattle.laws.proofs.FlatSteps.{join-memory, join-sheet}
 use Rattle.laws.proofs.Ranges.{or-false}

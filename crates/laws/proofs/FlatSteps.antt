@@ -1,15 +1,15 @@
 -- The mark and the store on flat bytes: where they are refused nothing changes, and where they are done the changed parts are joined.
-use mathlib.Core.Path.{_≡_, refl, sym, _∙_, ap}
-use mathlib.Core.Bool.{Bool, true, false, _&&_, and-eq-true-iff}
+use mathlib.Core.Path.{_≡_, _∙_, ap}
+use mathlib.Core.Bool.{true, false, _&&_, and-eq-true-iff}
 use mathlib.Core.List.{List, [], _∷_}
-use Prim.Native.Nat.{ℕ, _+_, _*_, _<_, _≤_}
+use Prim.Native.Nat.{ℕ, _*_, _≤_}
 use native.Mathlib.Omega.{arith}
 use lib.Dec.{eqb, leb, lit<}
 use lib.ListN.{length}
 use borrow.Author.Tests.{eqb-true, leb-true}
 use Rattle.rules.specs.declared.Verdict.the-variants.{Done, Refused}
 use Rattle.rules.specs.Words.{between, page-size, least-pages, most-pages, records, record-size}
-use Rattle.rules.specs.Answers.{Answered, refuse}
+use Rattle.rules.specs.Answers.{refuse}
 use Rattle.rules.specs.Machine.{Lent, amend, record-at, write, with-memory, written}
 use Rattle.rules.specs.Steps.{store, may-store, mark, may-mark}
 use Rattle.rules.specs.Flat.{parts, join, parted, store-bytes, mark-bytes, memory-fits, memory-sized, sheet-sized}

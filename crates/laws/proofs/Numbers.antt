@@ -1,13 +1,13 @@
 -- Laws of `little` and `number`, over the width: a number laid out as bytes is read back, and only a write into its own bytes changes a
 -- number.
-use mathlib.Core.Path.{_≡_, refl, sym, _∙_, ap, ap₂}
+use mathlib.Core.Path.{_≡_, refl, _∙_, ap, ap₂}
 use mathlib.Core.Logic.{_⊎_, inl, inr}
 use mathlib.Core.List.{List, [], _∷_, _++_, append-assoc}
 use Prim.Native.Nat.{ℕ, zero, suc, _+_, _*_, _/_, _%_, _^_, _<_, _≤_}
 use native.Mathlib.Omega.{arith}
 use native.Mathlib.Nat.{add-zero, add-suc, suc-add, add-assoc, pow-suc, mod-eq-of-lt, one-le-pow}
 use lib.Arith.{mod-mul}
-use lib.ListN.{length, getD, take, drop, set, length-replicate, List·getD-append}
+use lib.ListN.{length, getD, take, drop, set, length-replicate}
 use lib.Seq.{sets, sets-eq, length-take-le, getD-append-add, getD-set-other, drop-cons}
 use Rattle.rules.specs.Words.{little, number}
 use Rattle.rules.specs.Machine.{zeros}
@@ -24,10 +24,6 @@ number-same (suc w) l m i j h =
 -- behind xs stand the numbers of ys
 pub number-append : (w : ℕ) (xs ys : List ℕ) (i : ℕ) → number w (xs ++ ys) (length xs + i) ≡ number w ys i
 number-append w xs ys i = number-same w (xs ++ ys) ys (length xs + i) i (λ k b. rw (add-assoc, getD-append-add))
-
--- a number that ends within xs is that of xs
-pub number-front : (w : ℕ) (xs ys : List ℕ) (i : ℕ) → i + w ≤ length xs → number w (xs ++ ys) i ≡ number w xs i
-number-front w xs ys i h = number-same w (xs ++ ys) xs i i (λ k b. List·getD-append xs ys 0 (i + k) (omega arith))
 
 -- little w n is w elements
 pub length-little : (w n : ℕ) → length (little w n) ≡ w

@@ -175,10 +175,6 @@ module _ {A : Type 0} (test : A → Bool) where
       let rest = places-read (suc first) xs d read (λ i h. ap read (omega arith) ∙ e (suc i) (omega arith)) in
       by-test (test x) (λ t. simp (t, rw add-zero at (e 0 (omega arith)), rest)) (λ t. rw t rest)
 
-  -- each place is that of an element that passes
-  pub places-pass : (first : ℕ) (xs : List A) (d : A) → every (λ p. test (getD xs (p - first) d)) (places test first xs) ≡ true
-  places-pass first xs d = places-read first xs d (λ p. getD xs (p - first) d) (λ i h. ap (λ k. getD xs k d) (omega arith))
-
 -- ---- rising lists of numbers
 
 -- strictly rising, from low on and below high

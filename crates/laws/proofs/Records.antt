@@ -99,30 +99,10 @@ pub is-live-laid-out : (v : Vcpu) → is-live (laid-out v) ≡ eqb (v .live) 1
 unfolding is-live fields laid-out
 is-live-laid-out v = refl
 
--- and holds a pool page as its field says
-pub holds-laid-out : (v : Vcpu) → holds (laid-out v) ≡ eqb (v .holding) 1
-unfolding holds fields laid-out
-holds-laid-out v = refl
-
 -- zeros are not live
 pub is-live-zeros : (n : ℕ) → is-live (zeros n) ≡ false
 unfolding is-live
 is-live-zeros n = rw fields-zeros
-
--- and hold no pool page
-pub holds-zeros : (n : ℕ) → holds (zeros n) ≡ false
-unfolding holds
-holds-zeros n = rw fields-zeros
-
--- a mark does not change whether a record is live, whatever its length
-pub is-live-marked : (r : List ℕ) (value : ℕ) → is-live (set r 2 value) ≡ is-live r
-unfolding is-live fields
-is-live-marked r value = rw (getD-set-other r 2 0 value 0 (omega arith))
-
--- nor whether it holds a pool page
-pub holds-marked : (r : List ℕ) (value : ℕ) → holds (set r 2 value) ≡ holds r
-unfolding holds fields
-holds-marked r value = rw (getD-set-other r 2 3 value 0 (omega arith))
 
 -- nor does a new calling area change whether a record is live
 pub is-live-remapped : (r : List ℕ) (p : ℕ) → is-live (sets r 12 (little 4 p)) ≡ is-live r

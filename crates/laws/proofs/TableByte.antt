@@ -67,12 +67,6 @@ pub low-put : (v : Bool) (m k n : ℕ) → put-bit v (m + k) n % 2 ^ m ≡ n % 2
 low-put v zero k n = omega arith
 low-put v (suc m) k n = simp (suc-add, mod-suc, put-suc v (m + k) n .0, put-suc v (m + k) n .1, low-put v m k (n / 2))
 
--- a number of m bits stays one
-pub put-lt : (v : Bool) (m k n : ℕ) → k < m → n < 2 ^ m → put-bit v k n < 2 ^ m
-put-lt v zero k n h l = absurd (omega arith)
-put-lt v (suc m) zero n h l = omega (arith, put-zero v n)
-put-lt v (suc m) (suc k) n h l = omega (arith, put-suc v k n, put-lt v m k (n / 2) (omega arith) (omega arith))
-
 -- ---- grant and revoke as one: the permissions of VMPL 1, 2 and 3, each if `which` holds for it, made v
 
 abbrev permit : Bool → (ℕ → Bool) → ℕ → ℕ
@@ -279,36 +273,6 @@ permissions-make-valid b = simp (permissions, permitted-make-valid)
 -- make-invalid keeps them
 pub permissions-make-invalid : (b : ℕ) → bits 6 4 (make-invalid b) ≡ bits 6 4 b
 permissions-make-invalid b = simp (permissions, permitted-make-invalid)
-
--- ---- bytes
-
-byte-permit : (v : Bool) (which : ℕ → Bool) (b : ℕ) → b < 256 → permit v which b < 256
-byte-permit v which = permit-keeps (λ x. x < 256) v which (λ k n h. put-lt v 8 (3 + k) n (omega arith))
-
--- grant of a byte is a byte
-pub byte-grant : (c b : ℕ) → b < 256 → grant c b < 256
-unfolding grant
-byte-grant c = byte-permit true (λ v. leb v c)
-
--- so is revoke
-pub byte-revoke : (b : ℕ) → b < 256 → revoke b < 256
-unfolding revoke
-byte-revoke = byte-permit false (λ v. true)
-
--- so is own
-pub byte-own : (o b : ℕ) → ltb o 8 ≡ true → b < 256 → own o b < 256
-unfolding own
-byte-own o b h l = omega (arith, ltb-true)
-
--- so is make-valid
-pub byte-make-valid : (b : ℕ) → b < 256 → make-valid b < 256
-unfolding make-valid
-byte-make-valid b = put-lt true 8 3 b (omega arith)
-
--- so is make-invalid
-pub byte-make-invalid : (b : ℕ) → b < 256 → make-invalid b < 256
-unfolding make-invalid
-byte-make-invalid b = put-lt false 8 3 b (omega arith)
 
 -- each field of a changed byte
 pub ruleset byte·simp = (

@@ -1,18 +1,17 @@
 -- Laws about what the tests of outcome 3 have shown of a machine, once they are passed.
-use mathlib.Core.Path.{_≡_, refl, sym, _∙_}
-use mathlib.Core.Bool.{Bool, true, false, not, _&&_, _||_, and-eq-true-iff}
+use mathlib.Core.Path.{_≡_, _∙_}
+use mathlib.Core.Bool.{true, false, not, _&&_, _||_, and-eq-true-iff}
 use mathlib.Core.List.{List, []}
-use Prim.Native.Nat.{ℕ, _*_, _<_, _≤_}
+use Prim.Native.Nat.{ℕ, _*_, _<_}
 use native.Mathlib.Omega.{arith}
-use lib.Dec.{leb, ltb, eqb, lit<}
+use lib.Dec.{leb, ltb}
 use lib.ListN.{length, getD}
-use borrow.Author.Tests.{leb-true, leb-false, ltb-false, not-false}
-use Rattle.rules.specs.declared.Vcpu.{Vcpu}
+use borrow.Author.Tests.{leb-true, leb-false, not-false}
 use Rattle.rules.specs.Words.{between, exists, page-size, records, record-size}
 use Rattle.rules.specs.Machine.{fields, is-live, holds, N}
 use Rattle.rules.specs.Sound.{bad-names, bad-record}
 use Rattle.rules.specs.Call.{bad-sheet, bad-machine}
-use Rattle.rules.specs.Flat.{Buffers, parts, parted, memory-fits, memory-sized, sheet-sized, well-sized}
+use Rattle.rules.specs.Flat.{Buffers, parts, parted, memory-sized, sheet-sized, well-sized}
 use Rattle.laws.specs.Tested.{Tested, Names}
 use Rattle.laws.proofs.Parts.{length-parts}
 use Rattle.laws.proofs.Ranges.{or-false, absent→}

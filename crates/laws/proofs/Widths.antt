@@ -1,5 +1,5 @@
 -- A number of a + b bytes is one of a bytes and then one of b bytes: what reads and writes of each width share.
-use mathlib.Core.Path.{_≡_, refl, sym, _∙_, ap}
+use mathlib.Core.Path.{_≡_, refl, _∙_, ap}
 use mathlib.Core.List.{List, [], _∷_, _++_}
 use Prim.Native.Nat.{ℕ, zero, suc, _+_, _*_, _/_, _%_, _^_, _<_}
 use native.Mathlib.Nat.{zero-add, suc-add, add-suc, add-zero, mul-add, mul-assoc, add-assoc, pow-succ', pow-zero, one-mul, div-div-eq-div-mul, div-one, pow-suc, mod-lt, one-le-pow}

@@ -1,7 +1,7 @@
 -- The masks of `byte`: one test, computed over the 256 bytes, and the rule at each byte.
 -- Assumes nothing.
 use mathlib.Core.Path.{_≡_, refl}
-use mathlib.Core.Bool.{Bool, true, false, _&&_, false≢true}
+use mathlib.Core.Bool.{Bool, true}
 use Prim.Native.Nat.{ℕ, _<_, zero-le}
 use lib.Bits.{bitAnd, bitOr}
 use lib.Dec.{eqb}

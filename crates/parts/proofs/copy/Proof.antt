@@ -1,12 +1,12 @@
 -- `parts::copy` meets its contract. The loop's invariant: the bytes passed are stored, at the front. The measure is what is left of them.
 -- Assumes nothing.
-use mathlib.Core.Path.{_≡_, refl, sym, _∙_, ap}
+use mathlib.Core.Path.{_≡_, refl}
 use Prim.Native.Nat.{ℕ, _-_, _≤_, _<_, zero-le}
 use native.Mathlib.Nat.{zero-add}
 use native.Mathlib.Numerals.{add-one}
 use native.Mathlib.Omega.{arith}
 use lib.ListN.{length, take, length-set}
-use lib.Seq.{sets, length-sets, take-all}
+use lib.Seq.{sets, take-all}
 use denote.Ref.{now}
 use Rattle.laws.proofs.Widths.{sets-more}
 use Rattle.parts.proofs.copy.Statement.{statement}

@@ -1,6 +1,6 @@
 -- `parts::put_bytes` meets its contract: the part that was lent comes back with the bytes over its front.
 -- Assumes nothing.
-use mathlib.Core.Path.{_≡_, _∙_, ap}
+use mathlib.Core.Path.{_∙_, ap}
 use native.Mathlib.Omega.{arith}
 use denote.Ref.{now}
 use lib.ListN.{length-take, length-drop}

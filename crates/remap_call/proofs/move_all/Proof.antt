@@ -1,15 +1,13 @@
 -- `remap_call::move_all` meets its contract: table, record and pages, each as the definition has it.
 -- Assumes nothing.
-use mathlib.Core.Path.{_≡_, sym, _∙_, ap}
-use Prim.Native.Nat.{ℕ, _<_}
+use mathlib.Core.Path.{sym, _∙_, ap}
 use mathlib.Core.List.{[], _∷_}
 use native.Mathlib.Omega.{arith}
 use lib.Dec.{lit<, lit≤}
-use lib.ListN.{length}
 use denote.Ref.{now}
 use Rattle.rules.specs.Words.{page-size, most-pages, record-size}
 use Rattle.rules.specs.Machine.{written}
-use Rattle.rules.specs.Flat.{buffers, parts, parted, memory-sized}
+use Rattle.rules.specs.Flat.{parted, memory-sized}
 use Rattle.laws.proofs.Parts.{same-parts}
 use Rattle.laws.proofs.FlatSteps.{sizes}
 use Rattle.laws.proofs.Tested.{pages-tested, memory-tested}

@@ -1,6 +1,5 @@
 -- `words::read2` meets its contract. The two bytes that are read are those of the definition.
 -- Assumes nothing.
-use mathlib.Core.Path.{_∙_, ap}
 use native.Mathlib.Omega.{arith}
 use native.Mathlib.Numerals.{add-one}
 use Rattle.rules.specs.Words.{number}

@@ -2,7 +2,7 @@
 -- Assumes nothing.
 use native.Mathlib.Omega.{arith}
 use lib.Dec.{lit<}
-use mathlib.Core.Path.{_≡_, sym}
+use mathlib.Core.Path.{sym}
 use Rattle.rules.specs.Words.{page-size}
 use Rattle.rules.specs.Machine.{written}
 use Rattle.laws.proofs.Parts.{length-parts}

@@ -1,6 +1,6 @@
 -- `pages::byte::granted` meets its contract: by the computed rules of its masks up to VMPL 3, and above 3 as at 3.
 -- Assumes nothing.
-use mathlib.Core.Path.{_≡_, refl, _∙_, sym}
+use mathlib.Core.Path.{_≡_, refl, _∙_}
 use Prim.Native.Nat.{ℕ, zero, suc, _≤_}
 use native.Mathlib.Omega.{arith}
 use borrow.Author.Tests.{le-leb}

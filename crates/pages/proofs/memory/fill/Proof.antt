@@ -1,11 +1,11 @@
 -- `pages::memory::fill` meets its contract. The loop's invariant: what was passed is zeros, and the rest is as it was. The measure is the rest's length.
 -- Assumes nothing.
-use mathlib.Core.Path.{_≡_, refl, sym, _∙_, ap}
-use mathlib.Core.List.{List, _++_, append-nil}
-use Prim.Native.Nat.{ℕ, _-_, _≤_, zero-le}
+use mathlib.Core.Path.{_≡_, refl, _∙_}
+use mathlib.Core.List.{_++_, append-nil}
+use Prim.Native.Nat.{_-_, _≤_, zero-le}
 use native.Mathlib.Omega.{arith}
 use lib.ListN.{length, drop, replicate, length-set, drop-of-length-le}
-use borrow.Author.Fill.{fill-none, fill-more}
+use borrow.Author.Fill.{fill-more}
 use denote.Ref.{now}
 use Rattle.rules.specs.Machine.{zeros}
 use Rattle.pages.proofs.memory.fill.Statement.{statement}

@@ -3,9 +3,8 @@
 use mathlib.Core.Path.{_≡_, _∙_, ap}
 use Prim.Native.Nat.{_+_, _-_, _*_}
 use native.Mathlib.Omega.{arith}
-use lib.ListN.{length}
 use denote.Ref.{now}
-use borrow.Rule.Slice.PartMut.{midOf, mid-len}
+use borrow.Rule.Slice.PartMut.{mid-len}
 use Rattle.rules.specs.Words.{page-size}
 use Rattle.rules.specs.Machine.{zeros}
 use Rattle.laws.proofs.Numbers.{length-zeros}

@@ -1,6 +1,5 @@
 -- `pages::usable::is_usable` meets its contract: the page number is compared with all its bits.
 -- Assumes nothing.
-use mathlib.Core.Path.{ap, _∙_}
 use borrow.Author.Tests.{lt-ltb, le-ltb}
 use Rattle.rules.specs.Machine.{N, below, table-byte, usable}
 use borrow.Author.Needs.{needs}
