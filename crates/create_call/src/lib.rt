@@ -3,16 +3,14 @@ ghost use mathlib.Core.Path.{_≡_};
 ghost use mathlib.Core.Bool.{true, cond, not, _&&_};
 ghost use mathlib.Core.List.{[]};
 ghost use Prim.Native.Nat.{_*_, _<_};
-ghost use lib.Dec.{eqb};
 ghost use lib.ListN.{length, getD, set};
 ghost use Rattle.rules.specs.Words.{record-size, records, exists, lowest};
 ghost use Rattle.rules.specs.Answers.{Answered};
-ghost use Rattle.rules.specs.Machine.{Lent, own, pool-in-use, fields, is-live, needs-page};
+ghost use Rattle.rules.specs.Machine.{own, pool-in-use, is-live, needs-page};
 ghost use Rattle.rules.specs.Calls.{Asked, unfit-page, unfit-pages, unfit-vcpu, is-free, created, create};
 ghost use Rattle.rules.specs.Flat.{buffers, parts, parted};
 ghost use Rattle.laws.specs.Alone.{table-alone};
 ghost use Rattle.laws.specs.Tested.{Tested};
-ghost use Rattle.sheet.specs.Row.{Row, row};
 ghost use Rattle.create_call.specs.Fit.{Asking, Named, Fit};
 use pages::PAGE_SIZE_U64;
 use rules::Code;
@@ -42,32 +40,6 @@ fn unfit_pages(table: &[u8], vmpl: u8, vmsa: u64, calling: u64) -> bool
         return true;
     }
     vmsa == calling
-}
-
-// Record i is live and has this APIC ID.
-fn has_apic(sheet: &[u8], i: usize, apic: u32) -> bool
-    requires { ⌜ Row (now sheet) i ⌝ }
-    ensures { λ r. ⌜ r ≡ (is-live (row (now (sheet .entry)) i) && eqb (fields (row (now (sheet .entry)) i) .apic) apic) ⌝ }
-{
-    let live = parts::byte(sheet, sheet::RECORD_SIZE, i, sheet::LIVE);
-    if live != 1 {
-        return false;
-    }
-    parts::number4(sheet, sheet::RECORD_SIZE, i, sheet::APIC_ID) == apic
-}
-
-fn apic_in_use(sheet: &[u8], apic: u32) -> bool
-    requires { ⌜ length (now sheet) ≡ record-size * records ⌝ }
-    ensures { λ r. ⌜ r ≡ exists (λ x. is-live x && eqb (fields x .apic) apic) (parts record-size (now (sheet .entry))) ⌝ }
-{
-    let mut i = 0;
-    while i < sheet::RECORDS {
-        if has_apic(sheet, i, apic) {
-            return true;
-        }
-        i += 1;
-    }
-    false
 }
 
 // The lowest record that is not live; 16 if all are.
@@ -105,7 +77,7 @@ fn unfit_vcpu(memory: &[u8], sheet: &[u8], caller_vmpl: u8, vmsa: usize, apic: u
     if features != startup_features {
         return true;
     }
-    apic_in_use(sheet, apic)
+    sheet::live::lowest(sheet, sheet::APIC_ID, apic as u64) < sheet::RECORDS
 }
 
 // Records 4 to 15 need a pool page.

@@ -2,11 +2,11 @@
 ghost use mathlib.Core.Path.{_≡_};
 ghost use mathlib.Core.Bool.{cond, not, _&&_};
 ghost use mathlib.Core.List.{[]};
-ghost use Prim.Native.Nat.{_*_, _<_};
+ghost use Prim.Native.Nat.{_<_};
 ghost use lib.Dec.{eqb};
 ghost use lib.ListN.{length, getD, set};
-ghost use Rattle.rules.specs.Words.{page-size, records, record-size, little, without-bit, lowest};
-ghost use Rattle.rules.specs.Machine.{written, zeros, own, fields, is-live, holds, efer};
+ghost use Rattle.rules.specs.Words.{page-size, record-size, little, without-bit};
+ghost use Rattle.rules.specs.Machine.{written, zeros, own, fields, holds, efer};
 ghost use Rattle.rules.specs.Calls;
 ghost use Rattle.rules.specs.Flat.{buffers, parts, parted};
 ghost use Rattle.laws.specs.Tested.{Tested};
@@ -16,34 +16,6 @@ use pages::PAGE_SIZE;
 use pages::PAGE_SIZE_U64;
 use rules::Code;
 use rules::Vcpu;
-
-// A live record names this page as its VMSA.
-fn is_named(sheet: &[u8], i: usize, page: u64) -> bool
-    requires { ⌜ Row (now sheet) i ⌝ }
-    ensures { λ r. ⌜ r ≡ (is-live (row (now (sheet .entry)) i) && eqb (fields (row (now (sheet .entry)) i) .vmsa) page) ⌝ }
-{
-    let live = parts::byte(sheet, sheet::RECORD_SIZE, i, sheet::LIVE);
-    if live != 1 {
-        return false;
-    }
-    let vmsa = parts::number4(sheet, sheet::RECORD_SIZE, i, sheet::VMSA) as u64;
-    vmsa == page
-}
-
-// The lowest record that does; 16 if none does.
-fn named_by(sheet: &[u8], page: u64) -> usize
-    requires { ⌜ length (now sheet) ≡ record-size * records ⌝ }
-    ensures { λ r. ⌜ r ≡ lowest (λ v. is-live v && eqb (fields v .vmsa) page) (parts record-size (now (sheet .entry))) ⌝ }
-{
-    let mut i = 0;
-    while i < sheet::RECORDS {
-        if is_named(sheet, i, page) {
-            return i;
-        }
-        i += 1;
-    }
-    i
-}
 
 // Another vCPU, and running.
 fn in_use(sheet: &[u8], i: usize, caller: usize) -> bool
@@ -153,7 +125,7 @@ pub fn delete(
     if rcx % PAGE_SIZE_U64 != 0 {
         return Code::Parameter;
     }
-    let i = named_by(sheet, rcx / PAGE_SIZE_U64);
+    let i = sheet::live::lowest(sheet, sheet::VMSA, rcx / PAGE_SIZE_U64);
     if i >= sheet::RECORDS {
         return Code::Parameter;
     }

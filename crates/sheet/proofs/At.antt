@@ -1,7 +1,7 @@
 -- A field of a record is a place in the sheet.
 -- Assumes nothing.
-use mathlib.Core.Path.{_≡_, sym, _∙_, ap}
-use Prim.Native.Nat.{ℕ, _+_, _/_, _<_, _≤_}
+use mathlib.Core.Path.{_≡_, _∙_}
+use Prim.Native.Nat.{ℕ, _+_, _*_, _<_, _≤_}
 use mathlib.Core.List.{List}
 use native.Mathlib.Omega.{arith}
 use lib.ListN.{length}
@@ -12,10 +12,15 @@ use Rattle.laws.proofs.Parts.{length-parts}
 use Rattle.parts.specs.Place.{Place}
 use Rattle.sheet.specs.Row.{Row}
 
--- a sheet of right size has its sixteen records
-pub rows-of : (sheet : List ℕ) → length sheet ≡ 512 → length (parts 32 sheet) ≡ 16
-rows-of sheet e = length-parts 32 sheet ∙ omega arith
+-- a record's size as it stands in a need, where code has handed it on
+abbrev size : ℕ
+size = 32
 
-pub at : {sheet : List ℕ} {i : ℕ} → Row sheet i → (o w : ℕ) → o + w ≤ 32 → Place sheet 32 i o w
+-- a sheet of right size has its records
+pub rows-of : (sheet : List ℕ) → length sheet ≡ record-size * records → length (parts record-size sheet) ≡ records
 unfolding records record-size
+rows-of sheet e = length-parts record-size sheet ∙ omega arith
+
+pub at : {sheet : List ℕ} {i : ℕ} → Row sheet i → (o w : ℕ) → o + w ≤ size → Place sheet size i o w
+unfolding record-size
 at {sheet} {i} r o w h = record { some = lit< tt; below = omega (arith, rows-of sheet (r .sized), r .below); within = h }

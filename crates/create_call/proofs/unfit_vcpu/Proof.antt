@@ -3,9 +3,10 @@
 use mathlib.Core.Path.{_≡_, sym, _∙_}
 use mathlib.Core.Bool.{false, _||_}
 use mathlib.Core.List.{[]}
+use Prim.Native.Nat.{_*_}
 use native.Mathlib.Omega.{arith}
 use lib.Dec.{ltb, lit<, lit≤}
-use lib.ListN.{getD}
+use lib.ListN.{length, getD}
 use denote.Ref.{now}
 use borrow.Author.Tests.{lt-ltb, le-ltb, eq-eqb, ne-eqb}
 use Rattle.rules.specs.Words.{page-size, records, record-size}
@@ -13,13 +14,18 @@ use Rattle.rules.specs.Machine.{page-at, startup, vcpu, record-at, fields, vmsa
 use Rattle.rules.specs.Launch.{unfit-vmsa}
 use Rattle.rules.specs.Calls.{unfit-vcpu}
 use Rattle.rules.specs.Flat.{parts, parted}
+use Rattle.sheet.specs.Row.{live-with}
 use Rattle.sheet.proofs.At.{at}
+use Rattle.sheet.proofs.Passed.{exists-below}
 use borrow.Author.Needs.{needs}
 use Rattle.create_call.proofs.unfit_vcpu.Statement.{statement}
 use Rattle.create_call.proofs.unfit_vcpu.Tie as tie
 
 abbrev start : tie.Else1 → tie.Start
 start c = let at-is-unfit = c .before in at-is-unfit .before .before .before
+
+whole : (c : tie.Else2) → length (now (start (c .before .before) .args .sheet)) ≡ record-size * records
+whole c = start (c .before .before) .pre .whole
 
 -- what the first two tests have shown of the page, once they are passed
 not-below : (c : tie.Else2) → let s = start (c .before .before) in let page = getD (parts page-size (now (s .args .memory))) (s .args .vmsa) [] in
@@ -52,7 +58,7 @@ features-of-requires c κs = search needs
 
 number8-requires : tie.Need-number8-requires
 unfolding records
-number8-requires c κs = let at-if2 = c .before in at (record { sized = start (at-if2 .before .before) .pre .whole; below = lit< tt }) _ _ (lit≤ tt)
+number8-requires c κs = at (record { sized = whole (c .before); below = lit< tt }) _ _ (lit≤ tt)
 
 returns-3 : tie.Need-returns-3
 unfolding unfit-vcpu page-at startup vcpu record-at parted fields page-size record-size
@@ -60,14 +66,16 @@ returns-3 c =
     let at-features = c .before .before in
     rw (not-below (at-features .before), ← at-features .features-of .ensures, ← c .before .number8 .ensures, ne-eqb _ _ (c .if3 .taken))
 
-apic-in-use-requires : tie.Need-apic-in-use-requires
-apic-in-use-requires c κs = search needs
+lowest-requires : tie.Need-lowest-requires
+unfolding record-size
+lowest-requires c κs = let at-features = c .before .before in (whole (at-features .before), lit≤ tt)
 
 returns-4 : tie.Need-returns-4
-unfolding unfit-vcpu page-at startup vcpu record-at parted fields page-size record-size
+unfolding unfit-vcpu page-at startup vcpu record-at parted fields page-size records record-size live-with
 returns-4 c =
     let at-number8 = c .before .before in let at-features = at-number8 .before in
-    rw (not-below (at-features .before), ← at-features .features-of .ensures, ← at-number8 .number8 .ensures, eq-eqb _ _ (c .before .if3 .left)) (c .apic-in-use .ensures)
+    rw (not-below (at-features .before), ← at-features .features-of .ensures, ← at-number8 .number8 .ensures, eq-eqb _ _ (c .before .if3 .left))
+    (exists-below _ _ (whole (at-features .before)) (c .lowest .ensures))
 
 pub unfit-vcpu-spec : {M : Type 1} → statement M
 unfit-vcpu-spec =
@@ -80,5 +88,5 @@ unfit-vcpu-spec =
     features-of-requires
     number8-requires
     returns-3
-    apic-in-use-requires
+    lowest-requires
     returns-4)

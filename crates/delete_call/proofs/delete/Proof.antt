@@ -19,6 +19,7 @@ use Rattle.laws.proofs.Ranges.{lowest-passes}
 use Rattle.laws.specs.Tested.{Tested}
 use Rattle.laws.proofs.Tested.{pages-tested, rows-tested, sheet-tested, caller-below, live-names}
 use Rattle.delete_call.specs.Live.{Live}
+use Rattle.sheet.specs.Row.{live-with}
 use Rattle.sheet.proofs.At.{at}
 use borrow.Author.Needs.{needs}
 use Rattle.delete_call.proofs.delete.Statement.{statement}
@@ -40,24 +41,24 @@ cleared b caller i page t h e =
     }
 
 -- the places that others look back at: where the call began, and past the third test
-abbrev start : tie.After-named-by → tie.Start
+abbrev start : tie.After-lowest → tie.Start
 start c = let at-if1 = c .before .before in let at-known = at-if1 .before in at-known .before .before .before
 
 abbrev else3 : tie.After-byte2 → tie.Else3
 else3 c = let at-byte = c .before .before in at-byte .before .before
 
-abbrev named : tie.Else3 → tie.After-named-by
+abbrev named : tie.Else3 → tie.After-lowest
 named c = c .before .before
 
-abbrev machine : tie.After-named-by → Lent
+abbrev machine : tie.After-lowest → Lent
 machine c = parted (record { memory = now (start c .args .memory); table = now (start c .args .table); sheet = now (start c .args .sheet) })
 
 -- the record that is found is the one that RCX means; and what the first three tests have shown of it, once they are passed
-found : (c : tie.After-named-by) → c .named-by .result ≡ named-by (page-of (start c .args .rcx)) (machine c)
-unfolding named-by page-of page-size parted
-found c = c .named-by .ensures ∙ ap (λ (p : ℕ). named-by p (machine c)) (omega arith)
+found : (c : tie.After-lowest) → c .lowest .result ≡ named-by (page-of (start c .args .rcx)) (machine c)
+unfolding named-by page-of page-size parted live-with fields
+found c = c .lowest .ensures ∙ ap (λ (p : ℕ). named-by p (machine c)) (omega arith)
 
-meant : (c : tie.Else3) → let i = named c .named-by .result in
+meant : (c : tie.Else3) → let i = named c .lowest .result in
     (not (multiple page-size (start (named c) .args .rcx)) || leb (length (machine (named c) .sheet)) i || eqb i 0) ≡ false
 unfolding multiple page-size parted records
 meant c =
@@ -67,8 +68,9 @@ returns : tie.Need-returns
 unfolding delete refuse multiple page-size
 returns c = rw (ne-eqb _ 0 (c .if1 .taken))
 
-named-by-requires : tie.Need-named-by-requires
-named-by-requires c κs = let at-known = c .before .before in sheet-tested _ _ (at-known .before .before .before .pre)
+lowest-requires : tie.Need-lowest-requires
+unfolding record-size
+lowest-requires c κs = let at-known = c .before .before in (sheet-tested _ _ (at-known .before .before .before .pre), lit≤ tt)
 
 same-length : tie.Need-same-length
 same-length c = search needs
@@ -146,7 +148,7 @@ delete-spec =
     tie.close
     (tie.spec
     returns
-    named-by-requires
+    lowest-requires
     same-length
     returns-2
     same-length-2
