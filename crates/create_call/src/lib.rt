@@ -42,7 +42,7 @@ fn unfit_pages(table: &[u8], vmpl: u8, vmsa: u64, calling: u64) -> bool
     vmsa == calling
 }
 
-// The lowest record that is not live; 16 if all are.
+// The lowest record that is not live; the number of records if all are.
 fn free_record(sheet: &[u8]) -> usize
     requires { ⌜ length (now sheet) ≡ record-size * records ⌝ }
     ensures { λ r. ⌜ r ≡ lowest (λ x. not (is-live x)) (parts record-size (now (sheet .entry))) ⌝ }
@@ -80,11 +80,11 @@ fn unfit_vcpu(memory: &[u8], sheet: &[u8], caller_vmpl: u8, vmsa: usize, apic: u
     sheet::live::lowest(sheet, sheet::APIC_ID, apic as u64) < sheet::RECORDS
 }
 
-// Records 4 to 15 need a pool page.
+// The first records need no pool page.
 fn needs_page(i: usize) -> bool
     ensures { λ r. ⌜ r ≡ needs-page i ⌝ }
 {
-    i >= 4
+    i >= sheet::RECORDS_WITHOUT_POOL
 }
 
 // Record i needs a pool page, and none is free.

@@ -109,7 +109,7 @@ fn make(memory: &mut [u8], table: &mut [u8], sheet: &mut [u8], plan: Plan)
     make_sheet(memory, sheet, plan);
     make_table(table, plan);
     let calling = plan.calling;
-    parts::put_number2(memory, 4096, calling, 0, 0);
+    parts::put_number2(memory, pages::PAGE_SIZE, calling, 0, 0);
 }
 
 // N pages of memory, a table and a sheet, made ready for the guest.
@@ -131,7 +131,7 @@ pub fn launch(
     if !fits {
         return Launched::WrongSize;
     }
-    if sheet.len() != 512 {
+    if sheet.len() != sheet::SHEET_SIZE {
         return Launched::WrongSize;
     }
     if n != table.len() {

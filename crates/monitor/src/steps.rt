@@ -23,10 +23,10 @@ pub fn store(
     if page >= table.len() {
         return Verdict::Refused;
     }
-    if offset > 4096 {
+    if offset > pages::PAGE_SIZE {
         return Verdict::Refused;
     }
-    if bytes.len() > 4096 - offset {
+    if bytes.len() > pages::PAGE_SIZE - offset {
         return Verdict::Refused;
     }
     let b = table[page];
@@ -38,7 +38,7 @@ pub fn store(
     if !permitted {
         return Verdict::Refused;
     }
-    parts::put_bytes(memory, 4096, page, offset, bytes);
+    parts::put_bytes(memory, pages::PAGE_SIZE, page, offset, bytes);
     Verdict::Done
 }
 
@@ -46,7 +46,7 @@ pub fn store(
 pub fn mark(sheet: &mut [u8], number: usize, running: u8) -> Verdict
     ensures { λ r. ⌜ Mark-promise number running (now (sheet .entry)) (record { answer = r; after = now (sheet .exit) }) ⌝ }
 {
-    if sheet.len() != 512 {
+    if sheet.len() != sheet::SHEET_SIZE {
         return Verdict::Refused;
     }
     if number >= sheet::RECORDS {

@@ -1,4 +1,5 @@
-// The vCPU sheet: where the fields of a record stand, a whole record, and the shape test of outcome 3. Nothing is assumed.
+// The vCPU sheet: its limits, where the fields of a record stand, a whole record, the search of live records, and the shape test of outcome 3.
+// Nothing is assumed.
 pub mod live;
 pub mod record;
 pub mod shape;

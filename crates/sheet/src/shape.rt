@@ -80,7 +80,7 @@ fn any_bad(sheet: &[u8], n: usize) -> bool
     false
 }
 
-// A caller above 15 or not live, record 0 not live, or a record that holds what outcome 3 names, in a machine of n pages.
+// A caller that is no record or not live, record 0 not live, or a record that holds what outcome 3 names, in a machine of n pages.
 pub fn bad_sheet(sheet: &[u8], n: usize, caller: usize) -> bool
     requires { ⌜ length (now sheet) ≡ record-size * records ⌝ }
     ensures { λ r. ⌜ r ≡ bad-sheet n caller (parts record-size (now (sheet .entry))) ⌝ }

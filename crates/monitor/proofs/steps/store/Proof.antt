@@ -35,7 +35,7 @@ sized c = sym (c .before .fits2 .ensures) ∙ not-false _ (c .if1 .left)
 
 fits : (c : tie.Else4) → leb (start₄ c .args .offset + length (now (start₄ c .args .bytes))) page-size ≡ true
 unfolding page-size
-fits c = le-leb (start₄ c .args .offset + length (now (start₄ c .args .bytes))) 4096 (omega arith)
+fits c = le-leb (start₄ c .args .offset + length (now (start₄ c .args .bytes))) page-size (omega arith)
 
 good : (c : tie.After-is-permitted) → valid (getD (now (start₄ (else₄ c) .args .table)) (start₄ (else₄ c) .args .page) 0) ≡ true
 good c = sym (c .before .before .is-valid .ensures) ∙ not-false _ (c .before .if5 .left)
@@ -59,13 +59,13 @@ returns-3 : tie.Need-returns-3
 unfolding Store-promise may-store below N parted page-size
 returns-3 c =
     let a = start₁ (c .before .before) .args in
-    store-refused _ _ _ _ _ _ (sized (c .before .before)) (rw (lt-ltb _ _ (c .before .if2 .left), lt-leb (a .offset + length (now (a .bytes))) 4096 (omega arith)))
+    store-refused _ _ _ _ _ _ (sized (c .before .before)) (rw (lt-ltb _ _ (c .before .if2 .left), lt-leb (a .offset + length (now (a .bytes))) page-size (omega arith)))
 
 returns-4 : tie.Need-returns-4
 unfolding Store-promise may-store below N parted page-size
 returns-4 c =
     let a = start₁ (c .before .before .before) .args in
-    store-refused _ _ _ _ _ _ (sized (c .before .before .before)) (rw (lt-ltb _ _ (c .before .before .if2 .left), lt-leb (a .offset + length (now (a .bytes))) 4096 (omega arith)))
+    store-refused _ _ _ _ _ _ (sized (c .before .before .before)) (rw (lt-ltb _ _ (c .before .before .if2 .left), lt-leb (a .offset + length (now (a .bytes))) page-size (omega arith)))
 
 shared-slice-read-b : tie.Need-shared-slice-read-b
 shared-slice-read-b c = search needs

@@ -15,7 +15,7 @@ use Rattle.parts.proofs.byte.Reads as byte-reads
 
 returns : tie.Need-returns
 unfolding bad-sheet records
-returns c = rw (le-leb 16 _ (c .if1 .taken))
+returns c = rw (le-leb records _ (c .if1 .taken))
 
 byte-requires : tie.Need-byte-requires
 unfolding records
@@ -23,7 +23,7 @@ byte-requires c κs = at (record { sized = c .before .before .pre; below = c .if
 
 returns-2 : tie.Need-returns-2
 unfolding bad-sheet is-live fields records record-size
-returns-2 c = rw (lt-leb 16 _ (c .before .before .if1 .left), ← c .before .byte .ensures, ne-eqb _ 1 (c .if2 .taken))
+returns-2 c = rw (lt-leb records _ (c .before .before .if1 .left), ← c .before .byte .ensures, ne-eqb _ 1 (c .if2 .taken))
 
 byte-requires-2 : tie.Need-byte-requires-2
 unfolding records
@@ -31,7 +31,7 @@ byte-requires-2 c κs = at (record { sized = c .before .before .before .before .
 
 returns-3 : tie.Need-returns-3
 unfolding bad-sheet is-live fields records record-size
-returns-3 c = rw (lt-leb 16 _ (c .before .before .before .before .if1 .left), ← c .before .before .before .byte .ensures, eq-eqb _ 1 (c .before .before .if2 .left), ← c .before .byte2 .ensures, ne-eqb _ 1 (c .if3 .taken))
+returns-3 c = rw (lt-leb records _ (c .before .before .before .before .if1 .left), ← c .before .before .before .byte .ensures, eq-eqb _ 1 (c .before .before .if2 .left), ← c .before .byte2 .ensures, ne-eqb _ 1 (c .if3 .taken))
 
 any-bad-requires : tie.Need-any-bad-requires
 any-bad-requires c κs = search needs
@@ -39,7 +39,7 @@ any-bad-requires c κs = search needs
 returns-4 : tie.Need-returns-4
 unfolding bad-sheet is-live fields records record-size
 returns-4 c =
-    rw (lt-leb 16 _ (c .before .before .before .before .before .if1 .left), ← c .before .before .before .before .byte .ensures, eq-eqb _ 1 (c .before .before .before .if2 .left), ← c .before .before .byte2 .ensures, eq-eqb _ 1 (c .before .if3 .left))
+    rw (lt-leb records _ (c .before .before .before .before .before .if1 .left), ← c .before .before .before .before .byte .ensures, eq-eqb _ 1 (c .before .before .before .if2 .left), ← c .before .before .byte2 .ensures, eq-eqb _ 1 (c .before .if3 .left))
     (c .any-bad .ensures)
 
 pub bad-sheet-spec : {M : Type 1} → statement M
