@@ -1,7 +1,6 @@
--- `monitor::launch::areas_meet` meets its contract.
+-- `monitor::launch::areas_meet` meets its contract: each return follows the definition's tests in their order.
 -- Assumes nothing.
-use mathlib.Core.Path.{sym}
-use borrow.Author.Tests.{lt-leb, le-leb, lt-ltb, le-ltb, eq-eqb, ne-eqb, ltb-true, ltb-false}
+use borrow.Author.Tests.{eq-eqb, ne-eqb}
 use Rattle.rules.specs.Launch.{areas-meet}
 use borrow.Author.Needs.{needs}
 use Rattle.monitor.proofs.launch.areas_meet.Statement.{statement}
@@ -23,7 +22,7 @@ in-monitor-requires-2 c κs = search needs
 
 returns-3 : tie.Need-returns-3
 unfolding areas-meet
-returns-3 c = rw (ne-eqb _ _ (c .before .before .before .if1 .left), ← c .before .before .in-monitor .ensures, c .before .if2 .left) (c .in-monitor2 .ensures)
+returns-3 c = let at-in = c .before .before in rw (ne-eqb _ _ (at-in .before .if1 .left), ← at-in .in-monitor .ensures, c .before .if2 .left) (c .in-monitor2 .ensures)
 
 pub areas-meet-spec : {M : Type 1} → statement M
 areas-meet-spec =

@@ -37,7 +37,7 @@ unfolding memory-sized
 fits c = sym (c .before .fits2 .ensures) ∙ not-false _ (c .if1 .left)
 
 sized : (c : tie.Else2) → well-sized (buffers (start₁ (c .before))) ≡ true
-unfolding memory-sized
+unfolding memory-sized record-size records
 sized c = well-sized-by (buffers (start₁ (c .before))) (fits (c .before)) (omega arith)
 
 within : (c : tie.Else4) → out-of-range (start₁ (else₂ c .before) .args .plan) (length (now (start₁ (else₂ c .before) .args .table))) ≡ false

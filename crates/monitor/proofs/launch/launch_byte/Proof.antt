@@ -1,10 +1,15 @@
--- `monitor::launch::launch_byte` meets its contract.
+-- `monitor::launch::launch_byte` meets its contract: each return follows the definition's tests in their order.
 -- Assumes nothing.
-use borrow.Author.Tests.{lt-leb, le-leb, lt-ltb, le-ltb, eq-eqb, ne-eqb, ltb-true, ltb-false}
-use Rattle.rules.specs.Launch.{launch-byte}
+use mathlib.Core.Path.{_≡_, sym, _∙_}
+use mathlib.Core.Bool.{false}
+use borrow.Author.Tests.{lt-ltb, le-ltb, eq-eqb, ne-eqb}
+use Rattle.rules.specs.Launch.{in-monitor, launch-byte}
 use borrow.Author.Needs.{needs}
 use Rattle.monitor.proofs.launch.launch_byte.Statement.{statement}
 use Rattle.monitor.proofs.launch.launch_byte.Tie as tie
+
+outside : (c : tie.Else1) → let a = c .before .before .args in in-monitor (a .plan) (a .p) ≡ false
+outside c = sym (c .before .in-monitor .ensures) ∙ c .if1 .left
 
 in-monitor-requires : tie.Need-in-monitor-requires
 in-monitor-requires c κs = search needs
@@ -15,19 +20,23 @@ returns c = rw (← c .before .in-monitor .ensures, c .if1 .taken)
 
 returns-2 : tie.Need-returns-2
 unfolding launch-byte
-returns-2 c = rw (← c .before .before .before .in-monitor .ensures, c .before .before .if1 .left, eq-eqb _ _ (c .if2 .taken))
+returns-2 c = rw (outside (c .before .before), eq-eqb _ _ (c .if2 .taken))
 
 returns-3 : tie.Need-returns-3
 unfolding launch-byte
-returns-3 c = rw (← c .before .before .before .before .before .in-monitor .ensures, c .before .before .before .before .if1 .left, ne-eqb _ _ (c .before .before .if2 .left), eq-eqb _ _ (c .if3 .taken))
+returns-3 c = let at-else2 = c .before .before in rw (outside (at-else2 .before .before), ne-eqb _ _ (at-else2 .if2 .left), eq-eqb _ _ (c .if3 .taken))
 
 returns-4 : tie.Need-returns-4
 unfolding launch-byte
-returns-4 c = rw (← c .before .before .before .before .before .before .before .in-monitor .ensures, c .before .before .before .before .before .before .if1 .left, ne-eqb _ _ (c .before .before .before .before .if2 .left), ne-eqb _ _ (c .before .before .if3 .left), lt-ltb _ _ (c .if4 .taken))
+returns-4 c =
+    let at-else3 = c .before .before in let at-else2 = at-else3 .before .before in
+    rw (outside (at-else2 .before .before), ne-eqb _ _ (at-else2 .if2 .left), ne-eqb _ _ (at-else3 .if3 .left), lt-ltb _ _ (c .if4 .taken))
 
 returns-5 : tie.Need-returns-5
 unfolding launch-byte
-returns-5 c = rw (← c .before .before .before .before .before .before .before .in-monitor .ensures, c .before .before .before .before .before .before .if1 .left, ne-eqb _ _ (c .before .before .before .before .if2 .left), ne-eqb _ _ (c .before .before .if3 .left), le-ltb _ _ (c .if4 .left))
+returns-5 c =
+    let at-else3 = c .before .before in let at-else2 = at-else3 .before .before in
+    rw (outside (at-else2 .before .before), ne-eqb _ _ (at-else2 .if2 .left), ne-eqb _ _ (at-else3 .if3 .left), le-ltb _ _ (c .if4 .left))
 
 pub launch-byte-spec : {M : Type 1} → statement M
 launch-byte-spec =

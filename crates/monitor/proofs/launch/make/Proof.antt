@@ -1,6 +1,5 @@
 -- `monitor::launch::make` meets its contract: sheet, table and calling page, each as launch makes it.
 -- Assumes nothing.
-use mathlib.Core.Path.{_≡_, _∙_}
 use lib.Dec.{lit<, lit≤}
 use Rattle.rules.specs.Words.{page-size, little}
 use Rattle.rules.specs.Machine.{N, page-at, write, with-memory}
@@ -11,14 +10,16 @@ use Rattle.monitor.proofs.launch.make.Statement.{statement}
 use Rattle.monitor.proofs.launch.make.Tie as tie
 
 make-sheet-requires : tie.Need-make-sheet-requires
-make-sheet-requires c κs = c .before .before .before .before .before .pre
+make-sheet-requires c κs = let at-known = c .before .before in at-known .before .before .before .pre
 
 make-table-requires : tie.Need-make-table-requires
 make-table-requires c κs = search needs
 
 put-number2-requires : tie.Need-put-number2-requires
 unfolding page-size
-put-number2-requires c κs = record { some = lit< tt; below = c .before .before .before .before .before .before .before .before .before .before .before .before .before .pre .calling; within = lit≤ tt }
+put-number2-requires c κs =
+    let at-table = c .before .before .before in let at-known = at-table .before .before in let at-sheet = at-known .before .before in
+    let at-slices = at-sheet .before .before .before in record { some = lit< tt; below = at-slices .before .before .before .pre .calling; within = lit≤ tt }
 
 same-length : tie.Need-same-length
 same-length c = search needs
@@ -32,10 +33,9 @@ same-length-3 c = search needs
 returns : tie.Need-returns
 unfolding parted made write with-memory N page-at little page-size
 returns c =
-    let sheet = c .before .before .before .before .before .before .before .before .before .before .make-sheet .ensures in
-    let table = c .before .before .before .before .before .before .make-table .ensures in
-    let memory = c .before .before .put-number2 .ensures in
-    λ i. record { memory = memory i; table = table i; sheet = sheet i }
+    let at-memory = c .before .before in let at-known = at-memory .before .before in let at-table = at-known .before .before in
+    let at-arg = at-table .before in let at-sheet = at-arg .before .before .before in
+    λ i. record { memory = at-memory .put-number2 .ensures i; table = at-table .make-table .ensures i; sheet = at-sheet .make-sheet .ensures i }
 
 pub make-spec : {M : Type 1} → statement M
 make-spec =

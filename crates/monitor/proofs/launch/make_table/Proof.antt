@@ -1,9 +1,9 @@
 -- `monitor::launch::make_table` meets its contract. The loop's invariant: what was passed is launch's, the rest as it was.
 -- The measure is the rest's length.
 -- Assumes nothing.
-use mathlib.Core.Path.{_≡_, refl, sym, _∙_, ap}
+use mathlib.Core.Path.{_≡_, refl, _∙_}
 use mathlib.Core.List.{map, _++_, append-nil}
-use Prim.Native.Nat.{ℕ, _-_, _≤_, zero-le}
+use Prim.Native.Nat.{_-_, _≤_, zero-le}
 use native.Mathlib.Omega.{arith}
 use native.Mathlib.Numerals.{add-one}
 use lib.ListN.{length, drop, length-set, drop-of-length-le}
@@ -39,8 +39,7 @@ loop-less c = omega arith
 
 loop-again : tie.Need-loop-again Inv-loop μ-loop
 loop-again c =
-    let l = c .before .before .loop in
-    let a = c .before .before .before .before .args in (
+    let at-loop = c .before .before in let l = at-loop .loop in let a = at-loop .before .before .args in (
       rw (l .inv .0, c .launch-byte .ensures, add-one) (filled-more (launch-byte (a .plan)) (now (a .table)) (l .p) (omega arith)),
       simp length-set (l .inv .1),
       omega arith,
@@ -52,8 +51,7 @@ same-length c = c .before .loop .inv .1
 returns : tie.Need-returns Inv-loop μ-loop
 unfolding launch-table
 returns c =
-    let l = c .before .loop in
-    let table = now (c .before .before .before .args .table) in
+    let at-loop = c .before in let l = at-loop .loop in let table = now (at-loop .before .before .args .table) in
     let all : l .p ≡ length table = omega arith in
     l .inv .0 ∙ rw (all, drop-of-length-le table {i = length table} (omega arith), append-nil)
 

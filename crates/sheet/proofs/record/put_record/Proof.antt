@@ -1,6 +1,6 @@
 -- `sheet::record::put_record` meets its contract: four numbers of eight bytes are the record that is laid out.
 -- Assumes nothing.
-use mathlib.Core.Path.{_≡_, sym, _∙_}
+use mathlib.Core.Path.{sym, _∙_}
 use Prim.Native.Nat.{_<_}
 use lib.Dec.{lit≤, lit<}
 use Rattle.rules.specs.Machine.{laid-out}
@@ -12,10 +12,23 @@ use Rattle.rules.specs.Flat.{parts}
 use Rattle.laws.proofs.Records.{length-laid-out}
 use Rattle.laws.proofs.Parts.{length-row}
 use Rattle.laws.proofs.Writes.{written-whole, record-written}
-use Rattle.sheet.proofs.At.{at, rows-of}
+use Rattle.sheet.proofs.At.{at, still, rows-of}
 use borrow.Author.Needs.{needs}
 use Rattle.sheet.proofs.record.put_record.Statement.{statement}
 use Rattle.sheet.proofs.record.put_record.Tie as tie
+
+-- where it began, and the writes, each seen from where the next one is made
+abbrev start : tie.After-join8 → tie.Start
+start c = let at-join4 = c .before .before in at-join4 .before .before
+
+abbrev put1 : tie.After-join82 → tie.After-put-number8
+put1 c = let at-known = c .before .before in at-known .before .before
+
+abbrev put2 : tie.After-join83 → tie.After-put-number82
+put2 c = let at-known = c .before .before in at-known .before .before
+
+abbrev put3 : tie.After-put-number8-arg4 → tie.After-put-number83
+put3 c = c .before .before .before
 
 join4-requires : tie.Need-join4-requires
 join4-requires c κs = search needs
@@ -24,26 +37,26 @@ join8-requires : tie.Need-join8-requires
 join8-requires c κs = search needs
 
 put-number8-requires : tie.Need-put-number8-requires
-unfolding records record-size
-put-number8-requires c κs = at (record { sized = c .before .before .before .before .pre .sized; below = c .before .before .before .before .pre .below }) _ _ (lit≤ tt)
+put-number8-requires c κs = at (start c .pre) _ _ (lit≤ tt)
 
 join8-requires-2 : tie.Need-join8-requires-2
 join8-requires-2 c κs = search needs
 
 put-number8-requires-2 : tie.Need-put-number8-requires-2
-unfolding records record-size
-put-number8-requires-2 c κs = at (record { sized = c .before .before .before .before .put-number8 .kept .0 ∙ c .before .before .before .before .before .before .before .before .before .pre .sized; below = c .before .before .before .before .before .before .before .before .before .pre .below }) _ _ (lit≤ tt)
+put-number8-requires-2 c κs = let at-1 = put1 c in at (still (at-1 .put-number8 .kept .0) (start (at-1 .before) .pre)) _ _ (lit≤ tt)
 
 join8-requires-3 : tie.Need-join8-requires-3
 join8-requires-3 c κs = search needs
 
 put-number8-requires-3 : tie.Need-put-number8-requires-3
-unfolding records record-size
-put-number8-requires-3 c κs = at (record { sized = c .before .before .before .before .put-number82 .kept .0 ∙ c .before .before .before .before .before .before .before .before .before .put-number8 .kept .0 ∙ c .before .before .before .before .before .before .before .before .before .before .before .before .before .before .pre .sized; below = c .before .before .before .before .before .before .before .before .before .before .before .before .before .before .pre .below }) _ _ (lit≤ tt)
+put-number8-requires-3 c κs =
+    let at-2 = put2 c in let at-1 = put1 (at-2 .before) in
+    at (still (at-2 .put-number82 .kept .0 ∙ at-1 .put-number8 .kept .0) (start (at-1 .before) .pre)) _ _ (lit≤ tt)
 
 put-number8-requires-4 : tie.Need-put-number8-requires-4
-unfolding records record-size
-put-number8-requires-4 c κs = at (record { sized = c .before .before .before .put-number83 .kept .0 ∙ c .before .before .before .before .before .before .before .before .put-number82 .kept .0 ∙ c .before .before .before .before .before .before .before .before .before .before .before .before .before .put-number8 .kept .0 ∙ c .before .before .before .before .before .before .before .before .before .before .before .before .before .before .before .before .before .before .pre .sized; below = c .before .before .before .before .before .before .before .before .before .before .before .before .before .before .before .before .before .before .pre .below }) _ _ (lit≤ tt)
+put-number8-requires-4 c κs =
+    let at-3 = put3 c in let at-2 = put2 (at-3 .before) in let at-1 = put1 (at-2 .before) in
+    at (still (at-3 .put-number83 .kept .0 ∙ at-2 .put-number82 .kept .0 ∙ at-1 .put-number8 .kept .0) (start (at-1 .before) .pre)) _ _ (lit≤ tt)
 
 same-length : tie.Need-same-length
 same-length c = search needs
@@ -51,23 +64,13 @@ same-length c = search needs
 returns : tie.Need-returns
 unfolding record-size records
 returns c =
-    let start = c .before .before .before .before .before .before .before .before .before .before .before .before .before .before .before .before .before .before .before .before .before in
-    let sheet = now (start .args .sheet) in
-    let i = start .args .i in
-    let v = start .args .v in
-    let rows = parts record-size sheet in
-    let h : i < length rows = omega (arith, rows-of sheet (start .pre .sized), start .pre .below) in
-    rw (
-      c .before .before .put-number84 .ensures,
-      c .before .before .before .before .before .before .put-number83 .ensures,
-      c .before .before .before .before .before .before .before .before .before .before .before .put-number82 .ensures,
-      c .before .before .before .before .before .before .before .before .before .before .before .before .before .before .before .before .put-number8 .ensures,
-      c .before .before .before .before .before .before .before .join83 .ensures,
-      c .before .before .before .before .before .before .before .before .before .before .before .before .join82 .ensures,
-      c .before .before .before .before .before .before .before .before .before .before .before .before .before .before .before .before .before .join8 .ensures,
-      c .before .before .before .before .before .before .before .before .before .before .before .before .before .before .before .before .before .before .before .join4 .ensures,
-    )
-    (record-written rows i h v ∙ written-whole rows i h (laid-out v) (length-laid-out v ∙ sym (length-row record-size sheet i (lit< tt) h)))
+    let at-4 = c .before .before in let at-3 = put3 (at-4 .before) in let at-2 = put2 (at-3 .before) in let at-1 = put1 (at-2 .before) in
+    let at-start = start (at-1 .before) in let v = at-start .args .v in
+    let sheet = now (at-start .args .sheet) in let rows = parts record-size sheet in let i = at-start .args .i in
+    let h : i < length rows = omega (arith, rows-of sheet (at-start .pre .sized), at-start .pre .below) in
+    rw (at-4 .put-number84 .ensures, at-3 .put-number83 .ensures, at-2 .put-number82 .ensures, at-1 .put-number8 .ensures)
+    (rw (at-3 .before .join83 .ensures, at-2 .before .join82 .ensures, at-1 .before .join8 .ensures, at-1 .before .before .before .join4 .ensures)
+    (record-written rows i h v ∙ written-whole rows i h (laid-out v) (length-laid-out v ∙ sym (length-row record-size sheet i (lit< tt) h))))
 
 pub put-record-spec : {M : Type 1} → statement M
 put-record-spec =
