@@ -1,2 +1,3 @@
+pub mod Answers
 pub mod Registers
 pub mod Values

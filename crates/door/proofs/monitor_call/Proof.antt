@@ -1,10 +1,8 @@
 -- `door::monitor_call` meets its contract: the registers from their bytes, the call's answer as the paper's number, and back.
 -- Assumes nothing.
 use Rattle.rules.specs.Words.{registers-size}
-use borrow.Author.Tests.{eq-eqb, ne-eqb}
-use Rattle.rules.specs.Answers.{numbered, outcome-number, refuse}
-use Rattle.rules.specs.Flat.{door-bytes}
 use Rattle.rules.specs.Promises.{Call-promise, Monitor-call-promise}
+use Rattle.door.proofs.Answers.{told, door-unsized, door-called}
 use borrow.Author.Needs.{needs}
 use Rattle.door.proofs.monitor_call.Statement.{statement}
 use Rattle.door.proofs.monitor_call.Tie as tie
@@ -13,8 +11,8 @@ outcome-requires : tie.Need-outcome-requires
 outcome-requires c κs = search needs
 
 returns : tie.Need-returns
-unfolding Call-promise Monitor-call-promise numbered door-bytes refuse registers-size
-returns c = rw (ne-eqb _ _ (c .before .if1 .taken), c .outcome .ensures)
+unfolding Call-promise Monitor-call-promise registers-size
+returns c = told _ (door-unsized _ _ _ (c .before .if1 .taken)) (c .outcome .ensures)
 
 read-registers-requires : tie.Need-read-registers-requires
 unfolding registers-size
@@ -43,8 +41,12 @@ same-length-4 : tie.Need-same-length-4
 same-length-4 c = search needs
 
 returns-2 : tie.Need-returns-2
-unfolding Call-promise Monitor-call-promise numbered door-bytes refuse registers-size
-returns-2 c = rw (eq-eqb _ _ (c .before .before .before .before .before .before .before .before .before .before .before .before .before .before .before .before .before .before .if1 .left), ← c .before .before .before .before .before .before .before .before .before .before .before .before .before .before .before .before .read-registers .ensures, c .before .before .before .before .before .before .before .before .before .before .before .before .call .ensures, c .before .before .before .write-registers .ensures, ← c .outcome2 .ensures)
+unfolding Call-promise Monitor-call-promise registers-size
+returns-2 c =
+    let at-write = c .before .before .before in let at-after = at-write .before .before in let at-sheet = at-after .before .before in
+    let at-table = at-sheet .before .before in let at-call = at-table .before .before .before in
+    let at-args = at-call .before in let at-read = at-args .before .before .before in
+    told _ (door-called _ _ _ (at-read .before .before .if1 .left) _ (at-read .read-registers .ensures) _ _ _ (at-call .call .ensures) _ (at-write .write-registers .ensures)) (c .outcome2 .ensures)
 
 pub monitor-call-spec : {M : Type 1} → statement M
 monitor-call-spec =
