@@ -1,51 +1,36 @@
 -- `door::write_registers` meets its contract, a register at a time.
 -- Assumes nothing.
 use Rattle.rules.specs.Words.{registers-size}
-use native.Mathlib.Omega.{arith}
-use Rattle.door.proofs.Registers.{registers-written}
+use Rattle.rules.specs.Flat.{register-bytes}
+use Rattle.door.proofs.Registers.{bytes-of, none, _then_, all}
 use borrow.Author.Needs.{needs}
 use Rattle.door.proofs.write_registers.Statement.{statement}
 use Rattle.door.proofs.write_registers.Tie as tie
 
-write8-requires : tie.Need-write8-requires
-unfolding registers-size
-write8-requires c κs = omega (arith, c .before .before .pre)
-
-write8-requires-2 : tie.Need-write8-requires-2
-unfolding registers-size
-write8-requires-2 c κs = omega (arith, c .before .before .before .before .before .before .pre, c .before .before .before .write8 .kept .0)
-
-write8-requires-3 : tie.Need-write8-requires-3
-unfolding registers-size
-write8-requires-3 c κs = omega (arith, c .before .before .before .before .before .before .before .before .before .before .pre, c .before .before .before .before .before .before .before .write8 .kept .0, c .before .before .before .write82 .kept .0)
-
-write8-requires-4 : tie.Need-write8-requires-4
-unfolding registers-size
-write8-requires-4 c κs = omega (arith, c .before .before .before .before .before .before .before .before .before .before .before .before .before .before .pre, c .before .before .before .before .before .before .before .before .before .before .before .write8 .kept .0, c .before .before .before .before .before .before .before .write82 .kept .0, c .before .before .before .write83 .kept .0)
-
-write8-requires-5 : tie.Need-write8-requires-5
-unfolding registers-size
-write8-requires-5 c κs = omega (arith, c .before .before .before .before .before .before .before .before .before .before .before .before .before .before .before .before .before .before .pre, c .before .before .before .before .before .before .before .before .before .before .before .before .before .before .before .write8 .kept .0, c .before .before .before .before .before .before .before .before .before .before .before .write82 .kept .0, c .before .before .before .before .before .before .before .write83 .kept .0, c .before .before .before .write84 .kept .0)
-
-write8-requires-6 : tie.Need-write8-requires-6
-unfolding registers-size
-write8-requires-6 c κs = omega (arith, c .before .before .before .before .before .before .before .before .before .before .before .before .before .before .before .before .before .before .before .before .before .before .pre, c .before .before .before .before .before .before .before .before .before .before .before .before .before .before .before .before .before .before .before .write8 .kept .0, c .before .before .before .before .before .before .before .before .before .before .before .before .before .before .before .write82 .kept .0, c .before .before .before .before .before .before .before .before .before .before .before .write83 .kept .0, c .before .before .before .before .before .before .before .write84 .kept .0, c .before .before .before .write85 .kept .0)
-
-same-length : tie.Need-same-length
-same-length c = search needs
-
 returns : tie.Need-returns
-returns c = rw (c .before .before .write86 .ensures, c .before .before .before .before .before .before .write85 .ensures, c .before .before .before .before .before .before .before .before .before .before .write84 .ensures, c .before .before .before .before .before .before .before .before .before .before .before .before .before .before .write83 .ensures, c .before .before .before .before .before .before .before .before .before .before .before .before .before .before .before .before .before .before .write82 .ensures, c .before .before .before .before .before .before .before .before .before .before .before .before .before .before .before .before .before .before .before .before .before .before .write8 .ensures) (registers-written _ (c .before .before .before .before .before .before .before .before .before .before .before .before .before .before .before .before .before .before .before .before .before .before .before .before .before .args .g) (c .before .before .before .before .before .before .before .before .before .before .before .before .before .before .before .before .before .before .before .before .before .before .before .before .before .pre))
+unfolding registers-size register-bytes bytes-of
+returns c =
+    let at6 = c .before .before in
+    let to6 = at6 .before in let at5 = to6 .before .before .before in
+    let to5 = at5 .before in let at4 = to5 .before .before .before in
+    let to4 = at4 .before in let at3 = to4 .before .before .before in
+    let to3 = at3 .before in let at2 = to3 .before .before .before in
+    let to2 = at2 .before in let at1 = to2 .before .before .before in
+    let front =
+    none then at1 .write8 .ensures then at2 .write82 .ensures then at3 .write83 .ensures then at4 .write84 .ensures then at5 .write85 .ensures
+    then at6 .write86 .ensures in
+    all front (at1 .before .before .before .pre)
 
 pub write-registers-spec : {M : Type 1} → statement M
+unfolding registers-size
 write-registers-spec =
     tie.close
     (tie.spec
-    write8-requires
-    write8-requires-2
-    write8-requires-3
-    write8-requires-4
-    write8-requires-5
-    write8-requires-6
-    same-length
+    (λ c κs. search needs)
+    (λ c κs. search needs)
+    (λ c κs. search needs)
+    (λ c κs. search needs)
+    (λ c κs. search needs)
+    (λ c κs. search needs)
+    (λ c. search needs)
     returns)
