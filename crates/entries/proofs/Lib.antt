@@ -1,1 +1,2 @@
+pub mod Coverable
 pub mod Reading

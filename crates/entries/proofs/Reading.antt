@@ -1,83 +1,104 @@
 -- An entry's reading, test by test: what each test that the code makes says of the definition.
 -- Assumes nothing.
-use mathlib.Core.Path.{_≡_, refl, sym, _∙_, ap}
-use mathlib.Core.Bool.{Bool, true, false, not, _&&_}
-use mathlib.Core.List.{List, []}
-use Prim.Native.Nat.{ℕ, _+_, _-_, _*_, _/_, _^_, _<_, _≤_}
+use mathlib.Core.Path.{_≡_, sym, _∙_, ap, ap₂}
+use mathlib.Core.Bool.{Bool, true, false, cond, not, _&&_}
+use mathlib.Core.List.{List}
+use Prim.Native.Nat.{ℕ, _+_, _*_, _/_, _%_, _^_, _<_, _≤_}
 use native.Mathlib.Omega.{arith}
-use native.Mathlib.Nat.{mod-eq-of-lt, mul-div-cancel-left}
-use lib.Dec.{eqb, lit<}
-use lib.ListN.{length, getD}
-use borrow.Author.Tests.{lt-ltb, le-ltb}
-use Rattle.rules.specs.declared.Code.the-variants.{Address, Parameter}
+use native.Mathlib.Nat.{div-one, mod-eq-of-lt}
+use lib.Dec.{eqb}
+use lib.ListN.{length}
+use Rattle.rules.specs.declared.Code.the-variants.{Address, Parameter, SizeMismatch, NoChange}
 use Rattle.rules.specs.declared.ListCall.{ListCall}
 use Rattle.rules.specs.declared.ListCall.the-variants.{Pvalidate, Deposit}
-use Rattle.rules.specs.declared.Entry.the-variants.{Unread}
-use Rattle.rules.specs.Words.{page-size, large, bits, range, every}
-use Rattle.rules.specs.Machine.{Lent, N, below, page-of, plain, owner, valid, table-byte, owned-by, usable}
+use Rattle.rules.specs.declared.Wish.the-variants.{Invalid, Valid}
+use Rattle.rules.specs.declared.Entry.{Entry}
+use Rattle.rules.specs.declared.Entry.the-variants.{Reads, Unread}
+use Rattle.rules.specs.Words.{page-size, large, bit, bits, range, every, count}
+use Rattle.rules.specs.Machine.{N, table-byte, usable}
 use Rattle.rules.specs.Lists.{entry-first, entry-pages, covered, malformed, coverable, read-covered, read-entry}
-use Rattle.laws.proofs.Ranges.{by-test, every-same, every-fails}
+use Rattle.laws.specs.Alone.{table-alone}
+use Rattle.laws.proofs.Counts.{every-count, every-not}
+use Rattle.laws.proofs.Ranges.{by-test, length-range}
 use Rattle.entries.specs.Reading.{valid-at, invalid-at, judged, pooled, read-at}
+use Rattle.entries.proofs.Coverable.{covered-within}
 
--- the page of an entry of eight bytes
+-- the size of an entry, and its page, of eight bytes
+pub size-is : (e : ℕ) → bits 1 0 e ≡ e % 4
+unfolding bits
+size-is e = rw (div-one e)
+
 pub first-is : (e : ℕ) → e < 2 ^ 64 → entry-first e ≡ e / 4096
 unfolding entry-first bits
 first-is e h =
     let whole : e / 4096 < 2 ^ 52 = omega arith in
     mod-eq-of-lt whole
 
-abbrev pub plain-at : List ℕ → ℕ → ℕ → Bool
-plain-at table list p = eqb (owner (getD table p 0)) plain && not (eqb p list)
-
--- a machine that has this table
-abbrev pub machine : List ℕ → Lent
-machine table = record { memory = []; table = table; sheet = [] }
-
--- the page of its own gPA
-pub own-page : (list : ℕ) → page-of (page-size * list) ≡ list
-unfolding page-of page-size
-own-page list = mul-div-cancel-left list (lit< tt)
-
-pub read-malformed : (call : ListCall) (list e : ℕ) (table : List ℕ) → malformed call e ≡ true → read-at call list e table ≡ Unread Parameter
-unfolding read-at read-entry
-read-malformed call list e table t = rw t
-
--- an entry that is well formed, of n pages from `first` on
-module _ (call : ListCall) (list e : ℕ) (table : List ℕ) (first n : ℕ) (from : entry-first e ≡ first) (many : entry-pages e ≡ n) (formed : malformed call e ≡ false) where
-  pub read-beyond : 1 ≤ n → length table < first + n → read-at call list e table ≡ Unread Address
-  unfolding read-at read-entry covered coverable below N
-  read-beyond some h =
-      let last = first + n - 1 in
-      let fails = every-fails (coverable 0 (page-size * list) (machine table)) first n last (omega arith) (omega arith) (rw (le-ltb last (length table) (omega arith))) in
-      rw (formed, from, many, fails)
-
-  module _ (inside : first + n ≤ length table) where
-    agree : every (coverable 0 (page-size * list) (machine table)) (range first n) ≡ every (plain-at table list) (range first n)
-    unfolding coverable below N owned-by table-byte
-    agree =
-        every-same (coverable 0 (page-size * list) (machine table)) (plain-at table list) first n
-        (λ p l h. rw (lt-ltb p (length table) (omega arith), own-page))
-
-    pub read-foreign : every (plain-at table list) (range first n) ≡ false → read-at call list e table ≡ Unread Address
-    unfolding read-at read-entry covered
-    read-foreign t = rw (formed, from, many, agree, t)
-
-    read-on : every (plain-at table list) (range first n) ≡ true → read-at call list e table ≡ read-covered call 0 e (machine table)
-    unfolding read-at read-entry covered
-    read-on t = rw (formed, from, many, agree, t)
-
-    pub read-as-pvalidate : every (plain-at table list) (range first n) ≡ true → call ≡ Pvalidate
-        → read-at call list e table ≡ judged (every (valid-at table) (range first n)) (every (invalid-at table) (range first n)) e first n
-    unfolding read-covered covered table-byte
-    read-as-pvalidate t is = read-on t ∙ rw (is, from, many)
-
-    pub read-as-deposit : every (plain-at table list) (range first n) ≡ true → call ≡ Deposit
-        → read-at call list e table ≡ pooled (every (valid-at table) (range first n)) first n
-    unfolding read-covered covered usable below N table-byte
-    read-as-deposit t is =
-        read-on t
-        ∙ rw (is, from, many, every-same (usable 0 (machine table)) (valid-at table) first n (λ p l h. rw (lt-ltb p (length table) (omega arith))))
-
-pub some-pages : (e : ℕ) → 1 ≤ entry-pages e
+some-pages : (e : ℕ) → 1 ≤ entry-pages e
 unfolding entry-pages large
 some-pages e = by-test (eqb (bits 1 0 e) 0) (λ t. rw t (omega arith)) (λ t. rw t (omega arith))
+
+-- ---- the tests of its pages, by how many of them are valid
+
+module _ (table : List ℕ) (first n found : ℕ) (counted : found ≡ count (valid-at table) (range first n)) where
+  pub all-by-count : every (valid-at table) (range first n) ≡ eqb found n
+  all-by-count = every-count (valid-at table) (range first n) ∙ ap₂ eqb (sym counted) (length-range first n)
+
+  none-by-count : every (invalid-at table) (range first n) ≡ eqb found 0
+  none-by-count = every-not (valid-at table) (range first n) ∙ ap (λ (k : ℕ). eqb k 0) (sym counted)
+
+  module _ (e : ℕ) where
+    abbrev told : Entry
+    told = judged (every (valid-at table) (range first n)) (every (invalid-at table) (range first n)) e first n
+
+    pub judged-mixed : (not (eqb found n) && not (eqb found 0)) ≡ true → told ≡ Unread SizeMismatch
+    judged-mixed t = rw (all-by-count, none-by-count, t)
+
+    module _ (even : (not (eqb found n) && not (eqb found 0)) ≡ false) where
+      pub judged-same : (cond (bit 2 e) (eqb found n) (eqb found 0) && not (bit 3 e)) ≡ true → told ≡ Unread NoChange
+      judged-same t = rw (all-by-count, none-by-count, even, t)
+
+      pub judged-read : (cond (bit 2 e) (eqb found n) (eqb found 0) && not (bit 3 e)) ≡ false → told ≡ Reads first n (cond (bit 2 e) Valid Invalid)
+      judged-read t = rw (all-by-count, none-by-count, even, t)
+
+-- ---- the whole reading
+
+-- an entry that is well formed, of n pages from `first` on
+pub record Formed (call : ListCall) (e first n : ℕ) : Type 0 where
+  pub well : malformed call e ≡ false
+  pub from : entry-first e ≡ first
+  pub many : entry-pages e ≡ n
+
+module _ (call : ListCall) (vmpl list e : ℕ) (table : List ℕ) where
+  abbrev may-cover : ℕ → Bool
+  may-cover = coverable vmpl (page-size * list) (table-alone table)
+
+  pub read-malformed : malformed call e ≡ true → read-at call vmpl list e table ≡ Unread Parameter
+  unfolding read-at read-entry
+  read-malformed t = rw t
+
+  module _ (first n : ℕ) (formed : Formed call e first n) where
+    pub read-foreign : every may-cover (range first n) ≡ false → read-at call vmpl list e table ≡ Unread Address
+    unfolding read-at read-entry covered
+    read-foreign t = rw (formed .well, formed .from, formed .many, t)
+
+    pub read-beyond : (1 ≤ n → length table < first + n) → read-at call vmpl list e table ≡ Unread Address
+    unfolding N
+    read-beyond h =
+        by-test (every may-cover (range first n))
+        (λ t. let some : 1 ≤ n = omega (arith, some-pages e, formed .many) in absurd (omega (arith, h some, covered-within vmpl (page-size * list) (table-alone table) first n some t)))
+        read-foreign
+
+    module _ (t : every may-cover (range first n) ≡ true) where
+      read-on : read-at call vmpl list e table ≡ read-covered call vmpl e (table-alone table)
+      unfolding read-at read-entry covered
+      read-on = rw (formed .well, formed .from, formed .many, t)
+
+      pub read-as-pvalidate : call ≡ Pvalidate
+          → read-at call vmpl list e table ≡ judged (every (valid-at table) (range first n)) (every (invalid-at table) (range first n)) e first n
+      unfolding read-covered covered table-byte
+      read-as-pvalidate is = read-on ∙ rw (is, formed .from, formed .many)
+
+      pub read-as-deposit : call ≡ Deposit → read-at call vmpl list e table ≡ pooled (every (usable vmpl (table-alone table)) (range first n)) first n
+      unfolding read-covered covered
+      read-as-deposit is = read-on ∙ rw (is, formed .from, formed .many)

@@ -16,6 +16,9 @@ use rules::Entry;
 use rules::ListCall;
 use rules::Wish;
 
+// The same, as an entry counts it.
+const LARGE_U64: u64 = LARGE as u64;
+
 fn reserved(call: ListCall, e: u64) -> u64
     ensures { λ r. ⌜ r ≡ reserved-bits call e ⌝ }
 {
@@ -39,7 +42,7 @@ fn is_malformed(call: ListCall, e: u64) -> bool
     if size != 1 {
         return false;
     }
-    e / 4096 % 512 != 0
+    e / 4096 % LARGE_U64 != 0
 }
 
 fn pages_of(e: u64) -> usize

@@ -1,6 +1,6 @@
 -- `entries::reader::is_mixed` meets its contract.
 -- Assumes nothing.
-use borrow.Author.Tests.{lt-ltb, le-ltb, eq-eqb, ne-eqb}
+use borrow.Author.Tests.{eq-eqb, ne-eqb}
 use Rattle.entries.proofs.reader.is_mixed.Statement.{statement}
 use Rattle.entries.proofs.reader.is_mixed.Tie as tie
 

@@ -1,7 +1,7 @@
 -- `entries::reader::is_unchanged` meets its contract.
 -- Assumes nothing.
 use mathlib.Core.Bool.{and-true, and-false}
-use borrow.Author.Tests.{lt-ltb, le-ltb, eq-eqb, ne-eqb}
+use borrow.Author.Tests.{eq-eqb, ne-eqb}
 use Rattle.rules.specs.Words.{bit}
 use Rattle.entries.proofs.reader.is_unchanged.Statement.{statement}
 use Rattle.entries.proofs.reader.is_unchanged.Tie as tie

@@ -1,60 +1,65 @@
 -- `entries::reader::read` meets its contract: each return is the definition's, test by test.
 -- Assumes nothing.
-use mathlib.Core.Path.{_≡_, sym, _∙_}
-use Prim.Native.Nat.{_+_, _/_, _<_, _≤_}
+use mathlib.Core.Path.{_≡_, sym, _∙_, ap}
+use Prim.Native.Nat.{ℕ, _*_, _/_}
 use native.Mathlib.Omega.{arith}
 use borrow.Author.Tests.{not-true, not-false}
-use lib.ListN.{length}
 use denote.Ref.{now}
-use Rattle.entries.proofs.Reading.{first-is, some-pages, read-malformed, read-beyond, read-foreign, read-as-pvalidate, read-as-deposit}
+use Rattle.rules.specs.Words.{page-size, range, every}
+use Rattle.rules.specs.Lists.{coverable}
+use Rattle.laws.specs.Alone.{table-alone}
+use Rattle.entries.proofs.Reading.{first-is, Formed, read-malformed, read-beyond, read-foreign, read-as-pvalidate, read-as-deposit}
 use borrow.Author.Needs.{needs}
 use Rattle.entries.proofs.reader.read.Statement.{statement}
 use Rattle.entries.proofs.reader.read.Tie as tie
+
+-- the way back, each place by the one before it
+abbrev start : tie.After-pages-of → tie.Start
+start c = let at-if1 = c .before in at-if1 .before .before .before
+
+abbrev sized : tie.After-all-coverable → tie.After-pages-of
+sized c = let at-if3 = c .before in at-if3 .before .before
+
+-- what is known of the entry, and of its pages
+formed : (c : tie.After-pages-of) → Formed (start c .args .call) (start c .args .e) (start c .args .e / 4096) (c .pages-of .result)
+formed c =
+    let at-if1 = c .before in
+    record {
+      well = sym (at-if1 .before .is-malformed .ensures) ∙ at-if1 .if1 .left;
+      from = first-is (start c .args .e) (omega arith);
+      many = sym (c .pages-of .ensures);
+    }
+
+covers : (c : tie.After-all-coverable) → let a : _ = start (sized c) .args in
+    every (coverable (a .vmpl) (page-size * a .list) (table-alone (now (a .table)))) (range (a .e / 4096) (sized c .pages-of .result)) ≡ c .all-coverable .result
+covers c =
+    let a = start (sized c) .args in
+    let test = coverable (a .vmpl) (page-size * a .list) (table-alone (now (a .table))) in
+    sym (c .all-coverable .ensures ∙ ap (λ (first : ℕ). every test (range first (sized c .pages-of .result))) (omega arith))
 
 is-malformed-requires : tie.Need-is-malformed-requires
 is-malformed-requires c κs = search needs
 
 returns : tie.Need-returns
-returns c = sym (read-malformed _ _ _ _ (sym (c .before .is-malformed .ensures) ∙ c .if1 .taken))
+returns c = sym (read-malformed _ _ _ _ _ (sym (c .before .is-malformed .ensures) ∙ c .if1 .taken))
 
 pages-of-requires : tie.Need-pages-of-requires
 pages-of-requires c κs = search needs
 
 returns-2 : tie.Need-returns-2
-returns-2 c =
-    let a = c .before .before .before .before .before .args in
-    let table = now (a .table) in
-    let from = first-is (a .e) (omega arith) in
-    let many = sym (c .before .pages-of .ensures) in
-    let formed = sym (c .before .before .before .is-malformed .ensures) ∙ c .before .before .if1 .left in
-    let some : 1 ≤ c .before .pages-of .result = omega (arith, some-pages (a .e), many) in
-    sym (read-beyond (a .call) (a .list) (a .e) table (a .e / 4096) (c .before .pages-of .result) from many formed some (omega arith))
+returns-2 c = sym (read-beyond _ _ _ _ _ _ _ (formed (c .before)) (omega arith))
 
 sub-if3 : tie.Need-sub-if3
 sub-if3 c = search needs
 
 returns-3 : tie.Need-returns-3
-returns-3 c =
-    let a = c .before .before .before .before .before .before .args in
-    let table = now (a .table) in
-    let from = first-is (a .e) (omega arith) in
-    let many = sym (c .before .before .pages-of .ensures) in
-    let formed = sym (c .before .before .before .before .is-malformed .ensures) ∙ c .before .before .before .if1 .left in
-    let some : 1 ≤ c .before .before .pages-of .result = omega (arith, some-pages (a .e), many) in
-    sym (read-beyond (a .call) (a .list) (a .e) table (a .e / 4096) (c .before .before .pages-of .result) from many formed some (omega arith))
+returns-3 c = sym (read-beyond _ _ _ _ _ _ _ (formed (c .before .before)) (omega arith))
 
-all-plain-requires : tie.Need-all-plain-requires
-all-plain-requires c κs = search needs
+all-coverable-requires : tie.Need-all-coverable-requires
+all-coverable-requires c κs = search needs
 
 returns-4 : tie.Need-returns-4
-returns-4 c =
-    let a = c .before .before .before .before .before .before .before .before .args in
-    let table = now (a .table) in
-    let from = first-is (a .e) (omega arith) in
-    let many = sym (c .before .before .before .before .pages-of .ensures) in
-    let formed = sym (c .before .before .before .before .before .before .is-malformed .ensures) ∙ c .before .before .before .before .before .if1 .left in
-    let inside : a .e / 4096 + c .before .before .before .before .pages-of .result ≤ length table = omega arith in
-    sym (read-foreign (a .call) (a .list) (a .e) table (a .e / 4096) (c .before .before .before .before .pages-of .result) from many formed inside (sym (c .before .all-plain .ensures) ∙ not-true (c .before .all-plain .result) (c .if4 .taken)))
+returns-4 c = sym (read-foreign _ _ _ _ _ _ _ (formed (sized (c .before))) (covers (c .before) ∙ not-true _ (c .if4 .taken)))
 
 enum-told : tie.Need-enum-told
 enum-told c = search needs
@@ -70,23 +75,15 @@ read-deposit-requires c κs = search needs
 
 returns-5 : tie.Need-returns-5
 returns-5 c =
-    let a = c .before .before .before .before .before .before .before .before .before .before .before .args in
-    let table = now (a .table) in
-    let from = first-is (a .e) (omega arith) in
-    let many = sym (c .before .before .before .before .before .before .before .pages-of .ensures) in
-    let formed = sym (c .before .before .before .before .before .before .before .before .before .is-malformed .ensures) ∙ c .before .before .before .before .before .before .before .before .if1 .left in
-    let inside : a .e / 4096 + c .before .before .before .before .before .before .before .pages-of .result ≤ length table = omega arith in
-    c .read-pvalidate .ensures ∙ sym (read-as-pvalidate (a .call) (a .list) (a .e) table (a .e / 4096) (c .before .before .before .before .before .before .before .pages-of .result) from many formed inside (sym (c .before .before .before .before .all-plain .ensures) ∙ not-false (c .before .before .before .before .all-plain .result) (c .before .before .before .if4 .left)) (c .before .enum-told .given .1))
+    let at-if4 = c .before .before .before in
+    let passed = covers (at-if4 .before) ∙ not-false _ (at-if4 .if4 .left) in
+    rw (read-as-pvalidate _ _ _ _ _ _ _ (formed (sized (at-if4 .before))) passed (c .before .enum-told .given .1)) (c .read-pvalidate .ensures)
 
 returns-6 : tie.Need-returns-6
 returns-6 c =
-    let a = c .before .before .before .before .before .before .before .before .before .before .before .args in
-    let table = now (a .table) in
-    let from = first-is (a .e) (omega arith) in
-    let many = sym (c .before .before .before .before .before .before .before .pages-of .ensures) in
-    let formed = sym (c .before .before .before .before .before .before .before .before .before .is-malformed .ensures) ∙ c .before .before .before .before .before .before .before .before .if1 .left in
-    let inside : a .e / 4096 + c .before .before .before .before .before .before .before .pages-of .result ≤ length table = omega arith in
-    c .read-deposit .ensures ∙ sym (read-as-deposit (a .call) (a .list) (a .e) table (a .e / 4096) (c .before .before .before .before .before .before .before .pages-of .result) from many formed inside (sym (c .before .before .before .before .all-plain .ensures) ∙ not-false (c .before .before .before .before .all-plain .result) (c .before .before .before .if4 .left)) (c .before .enum-told2 .given .1))
+    let at-if4 = c .before .before .before in
+    let passed = covers (at-if4 .before) ∙ not-false _ (at-if4 .if4 .left) in
+    rw (read-as-deposit _ _ _ _ _ _ _ (formed (sized (at-if4 .before))) passed (c .before .enum-told2 .given .1)) (c .read-deposit .ensures)
 
 pub read-spec : {M : Type 1} → statement M
 read-spec =
@@ -98,7 +95,7 @@ read-spec =
     returns-2
     sub-if3
     returns-3
-    all-plain-requires
+    all-coverable-requires
     returns-4
     enum-told
     read-pvalidate-requires

@@ -1,36 +1,41 @@
--- `entries::reader::read_deposit` meets its contract.
+-- `entries::reader::read_deposit` meets its contract: how many of the covered pages are valid tells whether all are usable.
 -- Assumes nothing.
-use mathlib.Core.Path.{_≡_, sym, _∙_, ap, ap₂}
-use Prim.Native.Nat.{ℕ}
-use borrow.Author.Tests.{lt-leb, le-leb, lt-ltb, le-ltb, eq-eqb, ne-eqb, not-true, not-false}
+use mathlib.Core.Path.{_≡_, _∙_}
+use native.Mathlib.Omega.{arith}
+use borrow.Author.Tests.{eq-eqb, ne-eqb}
 use lib.Dec.{eqb}
 use denote.Ref.{now}
-use Rattle.rules.specs.Words.{range, every, count}
-use Rattle.laws.proofs.Counts.{every-count, every-not}
-use Rattle.laws.proofs.Ranges.{length-range}
-use Rattle.entries.specs.Reading.{valid-at, invalid-at}
+use Rattle.rules.specs.Words.{range, every}
+use Rattle.rules.specs.Machine.{usable}
+use Rattle.laws.specs.Alone.{table-alone}
+use Rattle.laws.proofs.Ranges.{every-same}
+use Rattle.entries.specs.Reading.{valid-at}
+use Rattle.entries.proofs.Coverable.{usable-is}
+use Rattle.entries.proofs.Reading.{all-by-count}
 use borrow.Author.Needs.{needs}
 use Rattle.entries.proofs.reader.read_deposit.Statement.{statement}
 use Rattle.entries.proofs.reader.read_deposit.Tie as tie
+
+abbrev start : tie.After-count-valid → tie.Start
+start c = c .before .before
+
+all-told : (c : tie.After-count-valid)
+    → every (usable (start c .args .vmpl) (table-alone (now (start c .args .table)))) (range (start c .args .first) (start c .args .n))
+    ≡ eqb (c .count-valid .result) (start c .args .n)
+all-told c =
+    let a = start c .args in
+    every-same (usable (a .vmpl) (table-alone (now (a .table)))) (valid-at (now (a .table))) (a .first) (a .n)
+    (λ p l h. usable-is (a .vmpl) (now (a .table)) p (omega (arith, start c .pre)))
+    ∙ all-by-count (now (a .table)) (a .first) (a .n) _ (c .count-valid .ensures)
 
 count-valid-requires : tie.Need-count-valid-requires
 count-valid-requires c κs = search needs
 
 returns : tie.Need-returns
-returns c =
-    let a = c .before .before .before .args in
-    let table = now (a .table) in
-    let all : every (valid-at table) (range (a .first) (a .n)) ≡ eqb (c .before .count-valid .result) (a .n) =
-    every-count (valid-at table) (range (a .first) (a .n)) ∙ ap₂ eqb (sym (c .before .count-valid .ensures)) (length-range (a .first) (a .n)) in
-    rw (all, ne-eqb _ _ (c .if1 .taken))
+returns c = rw (all-told (c .before), ne-eqb _ _ (c .if1 .taken))
 
 returns-2 : tie.Need-returns-2
-returns-2 c =
-    let a = c .before .before .before .args in
-    let table = now (a .table) in
-    let all : every (valid-at table) (range (a .first) (a .n)) ≡ eqb (c .before .count-valid .result) (a .n) =
-    every-count (valid-at table) (range (a .first) (a .n)) ∙ ap₂ eqb (sym (c .before .count-valid .ensures)) (length-range (a .first) (a .n)) in
-    rw (all, eq-eqb _ _ (c .if1 .left))
+returns-2 c = rw (all-told (c .before), eq-eqb _ _ (c .if1 .left))
 
 pub read-deposit-spec : {M : Type 1} → statement M
 read-deposit-spec = tie.close (tie.spec count-valid-requires returns returns-2)

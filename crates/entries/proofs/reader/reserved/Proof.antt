@@ -1,6 +1,5 @@
 -- `entries::reader::reserved` meets its contract.
 -- Assumes nothing.
-use mathlib.Core.Path.{refl}
 use Rattle.rules.specs.Words.{bits}
 use Rattle.rules.specs.Lists.{reserved-bits}
 use borrow.Author.Needs.{needs}

@@ -1,6 +1,6 @@
 -- `entries::reader::wish_of` meets its contract.
 -- Assumes nothing.
-use borrow.Author.Tests.{lt-ltb, le-ltb, eq-eqb, ne-eqb}
+use borrow.Author.Tests.{eq-eqb, ne-eqb}
 use Rattle.rules.specs.Words.{bit}
 use Rattle.entries.proofs.reader.wish_of.Statement.{statement}
 use Rattle.entries.proofs.reader.wish_of.Tie as tie
