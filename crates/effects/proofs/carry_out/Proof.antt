@@ -1,8 +1,5 @@
 -- `effects::carry_out` meets its contract: memory is what `clear` leaves, and the table has the byte of `wished_byte`.
 -- Assumes nothing.
-use denote.Ref.{now}
-use Rattle.rules.specs.Words.{page-size}
-use Rattle.rules.specs.Flat.{parts}
 use Rattle.effects.proofs.Laws.{carry-out-apart}
 use borrow.Author.Needs.{needs}
 use Rattle.effects.proofs.carry_out.Statement.{statement}
@@ -28,9 +25,9 @@ same-length-2 c = search needs
 
 returns : tie.Need-returns
 returns c =
-    let a = c .before .before .before .before .before .before .before .before .args in
-    rw (c .before .before .before .before .clear .ensures, c .wished-byte .ensures)
-    (carry-out-apart (a .wish) (a .vmpl) (a .p) (parts page-size (now (a .memory))) (now (a .table)))
+    let at-memory = c .before .before .before in
+    let cleared = at-memory .before .clear in
+    rw (cleared .ensures, c .wished-byte .ensures) (carry-out-apart _ _ _ _)
 
 pub carry-out-spec : {M : Type 1} → statement M
 carry-out-spec =

@@ -4,13 +4,12 @@
 use native.Mathlib.Numerals.{add-one}
 use mathlib.Core.Path.{_≡_, refl, sym, _∙_}
 use Prim.Native.Nat.{_-_, _≤_, zero-le}
-use mathlib.Core.List.{[]}
 use native.Mathlib.Omega.{arith}
 use lib.ListN.{length}
 use denote.Ref.{now}
 use Rattle.rules.specs.Words.{page-size}
-use Rattle.rules.specs.Flat.{parts}
 use Rattle.rules.specs.Lists.{carry-out-all}
+use Rattle.laws.specs.Alone.{without-sheet}
 use Rattle.laws.proofs.Parts.{same-parts}
 use Rattle.effects.proofs.Laws.{carry-out-none, carry-out-more}
 use Rattle.effects.proofs.carry_out_all.Statement.{statement}
@@ -18,28 +17,34 @@ use Rattle.effects.proofs.carry_out_all.Tie as tie
 
 abbrev Inv-loop : tie.InvT-loop
 Inv-loop memory₀ table₀ wish vmpl first count i₀ memory table i =
-    (carry-out-all wish vmpl first i (record { memory = parts page-size memory₀; table = table₀; sheet = [] })
-    ≡ record { memory = parts page-size memory; table = table; sheet = [] })
+    (carry-out-all wish vmpl first i (without-sheet memory₀ table₀) ≡ without-sheet memory table)
     × (i ≤ count) × (length table ≡ length table₀) × (length memory ≡ length memory₀)
 
 abbrev μ-loop : tie.MeasureT-loop
 μ-loop memory₀ table₀ wish vmpl first count i₀ memory table i = count - i
 
+-- the way back
+abbrev start : tie.At-loop Inv-loop μ-loop → tie.Start Inv-loop μ-loop
+start c = c .before .before .before
+
+abbrev looped : tie.After-carry-out-arg2 Inv-loop μ-loop → tie.At-loop Inv-loop μ-loop
+looped c = c .before .before .before
+
+abbrev carried : tie.After-slice-known4 Inv-loop μ-loop → tie.After-carry-out Inv-loop μ-loop
+carried c = let at-table = c .before in at-table .before .before .before
+
 loop-holds : tie.Need-loop-holds Inv-loop μ-loop
-loop-holds c =
-    let a = c .before .before .args in
-    (carry-out-none (a .wish) (a .vmpl) (a .first) _, zero-le, refl, refl)
+loop-holds c = (carry-out-none _ _ _ _, zero-le, refl, refl)
 
 add-carry-out : tie.Need-add-carry-out Inv-loop μ-loop
 add-carry-out c = omega arith
 
 carry-out-requires : tie.Need-carry-out-requires Inv-loop μ-loop
 carry-out-requires c κs =
-    let l = c .before .before .before .loop in
-    let pre = c .before .before .before .before .before .before .pre in
+    let l = looped c .loop in let s = start (looped c) in
     record {
-      within = omega (arith, pre .within, l .inv .2, c .before .before .loop-test .taken);
-      pages = same-parts page-size (now (c .before .before .before .before .before .before .args .memory)) (l .memory) (l .inv .3) ∙ pre .pages ∙ sym (l .inv .2);
+      within = omega (arith, s .pre .within, l .inv .2, c .before .before .loop-test .taken);
+      pages = same-parts page-size (now (s .args .memory)) (l .memory) (l .inv .3) ∙ s .pre .pages ∙ sym (l .inv .2);
     }
 
 add-i : tie.Need-add-i Inv-loop μ-loop
@@ -50,10 +55,8 @@ loop-less c = omega arith
 
 loop-again : tie.Need-loop-again Inv-loop μ-loop
 loop-again c =
-    let l = c .before .before .before .before .before .before .before .before .loop in
-    let a = c .before .before .before .before .before .before .before .before .before .before .before .args in
-    let r = c .before .before .before .before .carry-out in (
-      rw (add-one (l .i)) (carry-out-more (a .wish) (a .vmpl) (a .first) (l .i) _ ∙ rw (l .inv .0) (r .ensures)),
+    let l = looped (carried c .before) .loop in let r = carried c .carry-out in (
+      rw (add-one (l .i)) (carry-out-more _ _ _ (l .i) _ ∙ rw (l .inv .0) (r .ensures)),
       omega arith,
       r .kept .1 .0 ∙ l .inv .2,
       r .kept .0 ∙ l .inv .3,
@@ -68,8 +71,7 @@ same-length-2 c = c .before .loop .inv .2
 returns : tie.Need-returns Inv-loop μ-loop
 returns c =
     let l = c .before .loop in
-    let a = c .before .before .before .before .args in
-    let all : l .i ≡ a .count = omega (arith, l .inv .1, c .loop-test .left) in
+    let all : l .i ≡ start (c .before) .args .count = omega (arith, l .inv .1, c .loop-test .left) in
     rw (← all) (l .inv .0)
 
 pub carry-out-all-spec : {M : Type 1} → statement M

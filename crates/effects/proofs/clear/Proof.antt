@@ -24,7 +24,7 @@ same-length c = search needs
 
 returns-2 : tie.Need-returns-2
 unfolding cleared fill with-memory
-returns-2 c = rw (c .before .before .before .before .enum-told2 .given .1) (c .before .before .fill-page .ensures)
+returns-2 c = let filled = c .before .before in rw (filled .before .before .enum-told2 .given .1) (filled .fill-page .ensures)
 
 enum-told-3 : tie.Need-enum-told-3
 enum-told-3 c = search needs
