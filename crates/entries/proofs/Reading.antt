@@ -34,7 +34,7 @@ first-is e h =
     let whole : e / 4096 < 2 ^ 52 = omega arith in
     mod-eq-of-lt whole
 
-some-pages : (e : ℕ) → 1 ≤ entry-pages e
+pub some-pages : (e : ℕ) → 1 ≤ entry-pages e
 unfolding entry-pages large
 some-pages e = by-test (eqb (bits 1 0 e) 0) (λ t. rw t (omega arith)) (λ t. rw t (omega arith))
 

@@ -1,108 +1,94 @@
 -- A run over a list, entry by entry: what the code meets is what the definition says.
 -- Assumes nothing.
 use mathlib.Core.Path.{_≡_, refl, sym, _∙_, ap}
-use mathlib.Core.Bool.{Bool, true, false, cond, not, _&&_, and-eq-true-iff}
+use mathlib.Core.Bool.{cond, not, _&&_}
 use mathlib.Core.List.{List, []}
-use Prim.Native.Nat.{ℕ, suc, _+_, _-_, _*_, _/_, _%_, _<_, _≤_}
+use Prim.Native.Nat.{ℕ, suc, _+_, _-_, _*_, _<_, _≤_, zero-le}
 use native.Mathlib.Omega.{arith}
-use native.Mathlib.Nat.{add-zero}
-use lib.Dec.{eqb, ltb}
+use native.Mathlib.Nat.{add-zero, add-assoc}
+use lib.Dec.{lit<}
 use lib.ListN.{length, getD}
-use borrow.Author.Tests.{ltb-true}
 use Rattle.rules.specs.declared.Code.{Code}
 use Rattle.rules.specs.declared.Wish.{Wish}
 use Rattle.rules.specs.declared.ListCall.{ListCall}
 use Rattle.rules.specs.declared.ListCall.the-variants.{Pvalidate, Deposit}
 use Rattle.rules.specs.declared.Entry.{Entry}
 use Rattle.rules.specs.declared.Entry.the-variants.{Reads, Unread}
-use Rattle.rules.specs.Words.{page-size, bit, number, range, every}
-use Rattle.rules.specs.Answers.{Answered, entry-code}
-use Rattle.rules.specs.Machine.{Lent, N, below, plain, page-of, offset-of, page-at, vcpu, table-byte, owned-by, valid, usable}
-use Rattle.rules.specs.Lists.{in-list, list-count, list-next, list-entry, store-index, entry-first, entry-pages, covered, malformed, coverable, read-covered, read-entry, carry-out-all, after-entry, run}
-use Rattle.rules.specs.Call.{bad-machine, bad-sheet}
-use Rattle.rules.specs.Flat.{Buffers, parts, parted}
-use Rattle.laws.proofs.Ranges.{by-test, every-same, every-range→}
+use Rattle.rules.specs.Words.{page-size, bit, little, number, every}
+use Rattle.rules.specs.Machine.{Lent, N, page-of, offset-of, page-at, written, write, with-memory, vcpu, table-byte, valid, usable}
+use Rattle.rules.specs.Lists.{in-list, list-count, list-next, list-entry, store-index, entry-first, entry-pages, covered, malformed, coverable, read-covered, read-entry}
+use Rattle.rules.specs.Lists.{carry-out-all, after-entry, run}
+use Rattle.rules.specs.Call.{bad-machine}
+use Rattle.rules.specs.Flat.{Buffers, buffers, parts, parted}
+use Rattle.laws.proofs.Ranges.{by-test, every-same}
 use Rattle.laws.proofs.FlatLaunch.{same-sizes}
+use Rattle.laws.proofs.Tested.{pages-tested}
+use Rattle.laws.proofs.Usable.{usable-alone}
+use Rattle.laws.specs.Alone.{table-alone}
 use Rattle.laws.specs.Tested.{Tested}
+use Rattle.parts.specs.Place.{Place}
 use Rattle.entries.specs.Reading.{read-at}
-use Rattle.entries.proofs.Reading.{machine, own-page, some-pages}
+use Rattle.entries.proofs.Coverable.{coverable-alone, covered-within}
+use Rattle.entries.proofs.Reading.{some-pages}
+use Rattle.list_calls.specs.Listed.{Listed}
 
 -- what an entry reads as goes by the table and the list's page alone
-page-is : (rcx : ℕ) → page-of rcx ≡ rcx / 4096
-unfolding page-of page-size
-page-is rcx = refl
+covered-same : (call : ListCall) (vmpl e : ℕ) (m : Lent) → read-covered call vmpl e m ≡ read-covered call vmpl e (table-alone (m .table))
+unfolding read-covered covered table-byte
+covered-same Pvalidate vmpl e m = refl
+covered-same Deposit vmpl e m =
+    rw (every-same (usable vmpl m) (usable vmpl (table-alone (m .table))) (entry-first e) (entry-pages e) (λ p l h. usable-alone vmpl m p))
 
-covered-same : (call : ListCall) (caller e : ℕ) (m : Lent) → read-covered call caller e m ≡ read-covered call 0 e (machine (m .table))
-unfolding read-covered usable below N table-byte
-covered-same Pvalidate caller e m = refl
-covered-same Deposit caller e m = refl
-
-coverable-same : (caller rcx e : ℕ) (m : Lent)
-    → every (coverable caller rcx m) (covered e) ≡ every (coverable 0 (page-size * (rcx / 4096)) (machine (m .table))) (covered e)
-unfolding covered coverable below N owned-by table-byte
-coverable-same caller rcx e m =
-    every-same (coverable caller rcx m) (coverable 0 (page-size * (rcx / 4096)) (machine (m .table))) (entry-first e) (entry-pages e)
-    (λ p l h. rw (own-page (rcx / 4096), page-is rcx))
-
-pub read-is : (call : ListCall) (caller rcx e : ℕ) (m : Lent) → read-entry call caller rcx e m ≡ read-at call (rcx / 4096) e (m .table)
-unfolding read-at read-entry
-read-is call caller rcx e m = rw (coverable-same caller rcx e m, covered-same call caller e m)
+read-is : (call : ListCall) (vmpl rcx e : ℕ) (m : Lent) → read-entry call vmpl rcx e m ≡ read-at call vmpl (page-of rcx) e (m .table)
+unfolding read-at read-entry covered
+read-is call vmpl rcx e m =
+    rw (
+      every-same (coverable vmpl rcx m) (coverable vmpl (page-size * page-of rcx) (table-alone (m .table))) (entry-first e) (entry-pages e) (λ p l h. coverable-alone vmpl rcx m p),
+      covered-same call vmpl e m,
+    )
 
 -- one entry of a run
-module _ (call : ListCall) (caller rcx todo k : ℕ) (m : Lent) (some : 0 < todo) where
+module _ (call : ListCall) (caller rcx vmpl todo k e : ℕ) (m : Lent) (asks : vcpu m caller .vmpl ≡ vmpl) (entry : list-entry k rcx m ≡ e) (some : 0 < todo) where
   counted : todo ≡ suc (todo - 1)
   counted = omega arith
 
-  pub run-on : (first count : ℕ) (wish : Wish) → read-at call (rcx / 4096) (list-entry k rcx m) (m .table) ≡ Reads first count wish
-      → run call caller rcx todo k m ≡ run call caller rcx (todo - 1) (suc k) (carry-out-all wish (vcpu m caller .vmpl) first count m)
+  pub run-on : (first count : ℕ) (wish : Wish) → read-at call vmpl (page-of rcx) e (m .table) ≡ Reads first count wish
+      → run call caller rcx todo k m ≡ run call caller rcx (todo - 1) (suc k) (carry-out-all wish vmpl first count m)
   unfolding run after-entry
-  run-on first count wish e = ap (λ (t : ℕ). run call caller rcx t k m) counted ∙ rw (read-is call caller rcx (list-entry k rcx m) m, e)
+  run-on first count wish h =
+      ap (λ (t : ℕ). run call caller rcx t k m) counted
+      ∙ rw (entry, asks, read-is call vmpl rcx e m, h) (ap (λ (v : ℕ). run call caller rcx (todo - 1) (suc k) (carry-out-all wish v first count m)) asks)
 
-  pub run-refused : (code : Code) → read-at call (rcx / 4096) (list-entry k rcx m) (m .table) ≡ Unread code
+  pub run-refused : (code : Code) → read-at call vmpl (page-of rcx) e (m .table) ≡ Unread code
       → run call caller rcx todo k m ≡ record { answer = code; after = store-index k rcx m }
   unfolding run after-entry
-  run-refused code e = ap (λ (t : ℕ). run call caller rcx t k m) counted ∙ rw (read-is call caller rcx (list-entry k rcx m) m, e)
+  run-refused code h = ap (λ (t : ℕ). run call caller rcx t k m) counted ∙ rw (entry, asks, read-is call vmpl rcx e m, h)
 
 -- an entry that reads covers pages of the table
-never : {A : Type 0} (code : Code) (first count : ℕ) (wish : Wish) → Unread code ≡ Reads first count wish → A
-never code first count wish e = let z : _≡_ {A = ℕ} 0 1 = cc in absurd (omega arith)
+unfoldable ends : Entry → ℕ
+ends (Reads first count wish) = first + count
+ends (Unread code) = 0
 
-range-is : (call : ListCall) (e : ℕ) (m : Lent) (first count : ℕ) (wish : Wish) → read-covered call 0 e m ≡ Reads first count wish
-    → (entry-first e ≡ first) × (entry-pages e ≡ count)
-unfolding read-covered
-range-is Pvalidate e m first count wish h =
+covered-ends : (call : ListCall) (vmpl e : ℕ) (m : Lent) → entry-first e + entry-pages e ≤ N m → ends (read-covered call vmpl e m) ≤ N m
+unfolding read-covered ends
+covered-ends Pvalidate vmpl e m h =
     let all = every (λ p. valid (table-byte m p)) (covered e) in
     let none = every (λ p. not (valid (table-byte m p))) (covered e) in
-    by-test (not all && not none)
-    (λ t. never _ first count wish (rw t at h))
-    (λ t. by-test (cond (bit 2 e) all none && not (bit 3 e))
-    (λ u. never _ first count wish (rw u at (rw t at h)))
-    (λ u. let g = rw u at (rw t at h) in (cc, cc)))
-range-is Deposit e m first count wish h =
-    by-test (every (usable (vcpu m 0 .vmpl) m) (covered e))
-    (λ t. let g = rw t at h in (cc, cc))
-    (λ t. never _ first count wish (rw t at h))
+    by-test (not all && not none) (λ t. rw t zero-le)
+    (λ t. by-test (cond (bit 2 e) all none && not (bit 3 e)) (λ u. rw (t, u) zero-le) (λ u. rw (t, u) h))
+covered-ends Deposit vmpl e m h = by-test (every (usable vmpl m) (covered e)) (λ t. rw t h) (λ t. rw t zero-le)
 
-last-below : (list e : ℕ) (table : List ℕ) → every (coverable 0 (page-size * list) (machine table)) (range (entry-first e) (entry-pages e)) ≡ true
-    → entry-first e + entry-pages e ≤ length table
-unfolding coverable below N
-last-below list e table u =
-    let some = some-pages e in
-    let last = entry-first e + entry-pages e - 1 in
-    let t = every-range→ (coverable 0 (page-size * list) (machine table)) (entry-first e) (entry-pages e) u last (omega arith) (omega arith) in
-    let outer = and-eq-true-iff (ltb last (length table) && owned-by plain (machine table) last) (not (eqb last (page-of (page-size * list)))) .0 t in
-    let inner = and-eq-true-iff (ltb last (length table)) (owned-by plain (machine table) last) .0 (outer .0) in
-    omega (arith, ltb-true last (length table) (inner .0))
+read-ends : (call : ListCall) (vmpl rcx e : ℕ) (m : Lent) → ends (read-entry call vmpl rcx e m) ≤ N m
+unfolding read-entry covered ends
+read-ends call vmpl rcx e m =
+    by-test (malformed call e) (λ t. rw t zero-le)
+    (λ t. by-test (every (coverable vmpl rcx m) (covered e))
+    (λ u. rw (t, u) (covered-ends call vmpl e m (covered-within vmpl rcx m (entry-first e) (entry-pages e) (some-pages e) u))) (λ u. rw (t, u) zero-le))
 
-pub reads-within : (call : ListCall) (list e : ℕ) (table : List ℕ) (first count : ℕ) (wish : Wish)
-    → read-at call list e table ≡ Reads first count wish → first + count ≤ length table
-unfolding read-at read-entry covered
-reads-within call list e table first count wish h =
-    by-test (malformed call e)
-    (λ t. never _ first count wish (rw t at h))
-    (λ t. by-test (every (coverable 0 (page-size * list) (machine table)) (range (entry-first e) (entry-pages e)))
-    (λ u. omega (arith, range-is call e (machine table) first count wish (rw u at (rw t at h)), last-below list e table u))
-    (λ u. never _ first count wish (rw u at (rw t at h))))
+pub reads-within : (call : ListCall) (vmpl list e : ℕ) (table : List ℕ) (first count : ℕ) (wish : Wish)
+    → read-at call vmpl list e table ≡ Reads first count wish → first + count ≤ length table
+unfolding read-at N ends
+reads-within call vmpl list e table first count wish h = rw h at (read-ends call vmpl (page-size * list) e (table-alone table))
 
 -- a machine as long as one that was tested, with its sheet, is tested
 pub still-tested : (b a : Buffers) (caller : ℕ) → Tested b caller → length (a .memory) ≡ length (b .memory) → length (a .table) ≡ length (b .table)
@@ -114,7 +100,14 @@ still-tested b a caller t m l s =
       shape = rw (l, s) (t .shape);
     }
 
--- the head of a list, as it is read
+-- a place in the list
+pub in-page : (b : Buffers) (caller rcx upto at width : ℕ) → Listed b caller rcx upto → at + width ≤ offset-of rcx + 8 + 8 * upto
+    → Place (b .memory) page-size (page-of rcx) at width
+unfolding page-size
+in-page b caller rcx upto at width l h =
+    record { some = lit< tt; below = rw (pages-tested b caller (l .tested)) (l .below); within = omega (arith, h, l .within) }
+
+-- what is read of it, and its index as it is stored
 module _ (b : Buffers) (rcx r : ℕ) where
   pub count-is : r ≡ number 2 (getD (parts page-size (b .memory)) (page-of rcx) []) (offset-of rcx) → list-count rcx (parted b) ≡ r
   unfolding list-count in-list page-at parted
@@ -123,3 +116,13 @@ module _ (b : Buffers) (rcx r : ℕ) where
   pub next-is : r ≡ number 2 (getD (parts page-size (b .memory)) (page-of rcx) []) (offset-of rcx + 2) → list-next rcx (parted b) ≡ r
   unfolding list-next in-list page-at parted
   next-is e = sym e
+
+  pub entry-is : (k : ℕ) → r ≡ number 8 (getD (parts page-size (b .memory)) (page-of rcx) []) (offset-of rcx + 8 + 8 * k) → list-entry k rcx (parted b) ≡ r
+  unfolding list-entry in-list page-at parted
+  entry-is k e = rw (← add-assoc (offset-of rcx) 8 (8 * k)) (sym e)
+
+pub stored-is : (rcx k : ℕ) (memory table sheet memory′ : List ℕ)
+    → parts page-size memory′ ≡ written (page-of rcx) (offset-of rcx + 2) (little 2 k) (parts page-size memory)
+    → store-index k rcx (parted (buffers memory table sheet)) ≡ parted (buffers memory′ table sheet)
+unfolding store-index write with-memory parted
+stored-is rcx k memory table sheet memory′ e = rw e

@@ -5,26 +5,26 @@ use mathlib.Core.Bool.{true, false}
 use Prim.Native.Nat.{_+_, _*_, _<_}
 use native.Mathlib.Omega.{arith}
 use borrow.Author.Tests.{lt-leb, le-leb, lt-ltb, le-ltb, eq-eqb, ne-eqb}
-use lib.Dec.{lit<, lit≤}
+use lib.Dec.{lit<}
 use lib.ListN.{length}
 use denote.Ref.{now}
 use Rattle.rules.specs.Words.{multiple, page-size, record-size, entries-a-call}
 use Rattle.rules.specs.Answers.{refuse}
 use Rattle.rules.specs.Machine.{Lent, vcpu, page-of, offset-of}
 use Rattle.rules.specs.Lists.{bad-list-page, list-count, list-next, bad-count, bad-next, run-within, list-call}
-use Rattle.rules.specs.Flat.{Buffers, parts, parted}
-use Rattle.laws.proofs.Tested.{pages-tested, rows-tested, caller-below}
-use Rattle.lists.proofs.Page.{vmpl-is, bad-page-is, page-within}
+use Rattle.rules.specs.Flat.{Buffers, buffers, parts, parted}
+use Rattle.laws.proofs.Tested.{pages-tested}
+use Rattle.lists.proofs.Page.{vmpl-place, page-told, page-within}
 use Rattle.list_calls.proofs.Entries.{count-is, next-is}
 use borrow.Author.Needs.{needs}
 use Rattle.list_calls.proofs.list_call.Statement.{statement}
 use Rattle.list_calls.proofs.list_call.Tie as tie
 
-abbrev buffers : tie.Start → Buffers
-buffers s = record { memory = now (s .args .memory); table = now (s .args .table); sheet = now (s .args .sheet) }
+abbrev given : tie.Start → Buffers
+given s = buffers (now (s .args .memory)) (now (s .args .table)) (now (s .args .sheet))
 
 abbrev lent : tie.Start → Lent
-lent s = parted (buffers s)
+lent s = parted (given s)
 
 -- the way back, each place by the one before it
 abbrev start₁ : tie.Else1 → tie.Start
@@ -50,20 +50,17 @@ aligned : (c : tie.After-bad-list-page) → multiple 8 (start₂ c .args .rcx) �
 unfolding multiple
 aligned c = eq-eqb _ 0 (c .before .before .before .if1 .left)
 
-page-told : (c : tie.After-bad-list-page)
+page-is : (c : tie.After-bad-list-page)
     → bad-list-page (vcpu (lent (start₂ c)) (start₂ c .args .caller) .vmpl) (start₂ c .args .rcx) (lent (start₂ c)) ≡ c .bad-list-page .result
 unfolding record-size
-page-told c =
-    let a = start₂ c .args in
-    let byte = c .before .before .byte in
-    rw (vmpl-is (a .caller) (a .rcx) (buffers (start₂ c)) (byte .result) (byte .ensures)) (bad-page-is (a .caller) (a .rcx) (buffers (start₂ c)) _ _ (c .bad-list-page .ensures))
+page-is c = page-told (start₂ c .args .caller) (given (start₂ c)) (start₂ c .args .rcx) _ _ (c .before .before .byte .ensures) (c .bad-list-page .ensures)
 
-page-inside : (c : tie.Else2) → page-of (start₂ (c .before) .args .rcx) < length (parts page-size (buffers (start₂ (c .before)) .memory))
-page-inside c = page-within _ _ (buffers (start₂ (c .before))) _ (start₂ (c .before) .pre) (page-told (c .before) ∙ c .if2 .left)
+page-inside : (c : tie.Else2) → page-of (start₂ (c .before) .args .rcx) < length (parts page-size (given (start₂ (c .before)) .memory))
+page-inside c = page-within _ (given (start₂ (c .before))) _ _ (start₂ (c .before) .pre) (page-is (c .before) ∙ c .if2 .left)
 
 count-told : (c : tie.After-number2) → list-count (start₃ c .args .rcx) (lent (start₃ c)) ≡ c .number2 .result
 unfolding page-of offset-of page-size
-count-told c = count-is (buffers (start₃ c)) _ _ (c .number2 .ensures)
+count-told c = count-is (given (start₃ c)) _ _ (c .number2 .ensures)
 
 good-count : (c : tie.Else4) → bad-count (start₃ (at-count c) .args .rcx) (lent (start₃ (at-count c))) ≡ false
 unfolding bad-count offset-of page-size
@@ -73,7 +70,7 @@ good-count c =
 
 next-told : (c : tie.After-number22) → list-next (start₃ (at-count (else₄ c)) .args .rcx) (lent (start₃ (at-count (else₄ c)))) ≡ c .number22 .result
 unfolding page-of offset-of page-size
-next-told c = next-is (buffers (start₃ (at-count (else₄ c)))) _ _ (c .number22 .ensures)
+next-told c = next-is (given (start₃ (at-count (else₄ c)))) _ _ (c .number22 .ensures)
 
 returns : tie.Need-returns
 unfolding list-call refuse multiple
@@ -81,9 +78,7 @@ returns c = rw (ne-eqb _ 0 (c .if1 .taken))
 
 byte-requires : tie.Need-byte-requires
 unfolding record-size
-byte-requires c κs =
-    let t = start₁ c .pre in
-    record { some = lit< tt; below = rw (rows-tested _ _ t) (caller-below _ _ t); within = lit≤ tt }
+byte-requires c κs = vmpl-place _ _ (start₁ c .pre)
 
 bad-list-page-requires : tie.Need-bad-list-page-requires
 bad-list-page-requires c κs = search needs
@@ -93,7 +88,7 @@ same-length c = search needs
 
 returns-2 : tie.Need-returns-2
 unfolding list-call refuse
-returns-2 c = rw (aligned (c .before), page-told (c .before), c .if2 .taken)
+returns-2 c = rw (aligned (c .before), page-is (c .before), c .if2 .taken)
 
 number2-requires : tie.Need-number2-requires
 unfolding page-of page-size
@@ -110,7 +105,7 @@ same-length-3 c = search needs
 
 returns-3 : tie.Need-returns-3
 unfolding list-call refuse bad-count
-returns-3 c = rw (aligned (at-page (c .before)), page-told (at-page (c .before)) ∙ c .before .before .before .if2 .left, count-told (c .before), eq-eqb _ 0 (c .if3 .taken))
+returns-3 c = rw (aligned (at-page (c .before)), page-is (at-page (c .before)) ∙ c .before .before .before .if2 .left, count-told (c .before), eq-eqb _ 0 (c .if3 .taken))
 
 add-if4 : tie.Need-add-if4
 add-if4 c = search needs
@@ -132,7 +127,7 @@ unfolding list-call refuse bad-count offset-of page-size
 returns-4 c =
     let counted = c .before .before in
     let end = offset-of (start₃ counted .args .rcx) + 8 + 8 * counted .number2 .result in
-    rw (aligned (at-page counted), page-told (at-page counted) ∙ counted .before .before .if2 .left, count-told counted, ne-eqb _ 0 (c .before .if3 .left), lt-ltb page-size end (omega arith))
+    rw (aligned (at-page counted), page-is (at-page counted) ∙ counted .before .before .if2 .left, count-told counted, ne-eqb _ 0 (c .before .if3 .left), lt-ltb page-size end (omega arith))
 
 add-number2 : tie.Need-add-number2
 add-number2 c = search needs
@@ -154,7 +149,7 @@ returns-5 : tie.Need-returns-5
 unfolding list-call refuse bad-next
 returns-5 c =
     let counted = at-count (else₄ (c .before)) in
-    rw (aligned (at-page counted), page-told (at-page counted) ∙ counted .before .before .if2 .left, good-count (else₄ (c .before)), count-told counted, next-told (c .before), le-leb _ _ (c .if5 .taken))
+    rw (aligned (at-page counted), page-is (at-page counted) ∙ counted .before .before .if2 .left, good-count (else₄ (c .before)), count-told counted, next-told (c .before), le-leb _ _ (c .if5 .taken))
 
 sub-at-most : tie.Need-sub-at-most
 sub-at-most c = search needs
@@ -163,7 +158,7 @@ at-most-requires : tie.Need-at-most-requires
 at-most-requires c κs = search needs
 
 run-requires : tie.Need-run-requires
-unfolding page-of page-size entries-a-call
+unfolding page-of offset-of page-size entries-a-call
 run-requires c κs =
     let asked = c .before .before in
     let counted = at-count (else₄ (asked .before .before)) in
@@ -184,7 +179,7 @@ returns-6 c =
     let asked = ran .before .before .before in
     let read = asked .before .before in
     let counted = at-count (else₄ read) in
-    rw (aligned (at-page counted), page-told (at-page counted) ∙ counted .before .before .if2 .left, good-count (else₄ read), count-told counted, next-told read, lt-leb _ _ (asked .before .if5 .left), ← asked .at-most .ensures)
+    rw (aligned (at-page counted), page-is (at-page counted) ∙ counted .before .before .if2 .left, good-count (else₄ read), count-told counted, next-told read, lt-leb _ _ (asked .before .if5 .left), ← asked .at-most .ensures)
     (ran .run .ensures)
 
 pub list-call-spec : {M : Type 1} → statement M

@@ -1,30 +1,46 @@
 -- `list_calls::stop` meets its contract: the index is stored, and the count that is read before is the list's.
 -- Assumes nothing.
-use mathlib.Core.Path.{sym}
+use mathlib.Core.Path.{_≡_}
+use mathlib.Core.Bool.{cond}
 use native.Mathlib.Omega.{arith}
-use native.Mathlib.Nat.{add-zero}
 use borrow.Author.Tests.{lt-ltb, le-ltb}
-use lib.Dec.{lit<}
+use lib.Dec.{ltb}
 use denote.Ref.{now}
 use Rattle.rules.specs.declared.Code.the-variants.{Success, Incomplete}
-use Rattle.rules.specs.Words.{page-size, record-size}
-use Rattle.rules.specs.Machine.{page-of, offset-of, page-at, write, with-memory}
-use Rattle.rules.specs.Lists.{in-list, list-count, store-index, run}
-use Rattle.rules.specs.Flat.{parts, parted}
-use Rattle.laws.proofs.Tested.{pages-tested}
+use Rattle.rules.specs.Words.{page-size}
+use Rattle.rules.specs.Machine.{page-of, offset-of}
+use Rattle.rules.specs.Lists.{run}
+use Rattle.rules.specs.Flat.{Buffers, buffers, parted}
+use Rattle.list_calls.proofs.Entries.{in-page, count-is, stored-is}
 use borrow.Author.Needs.{needs}
 use Rattle.list_calls.proofs.stop.Statement.{statement}
 use Rattle.list_calls.proofs.stop.Tie as tie
 
--- the way back: where the call began
+-- the way back to where the call began, and what is lent there
 abbrev start : tie.After-number2-arg → tie.Start
 start c = let known = c .before in known .before .before .before
 
+abbrev counted : tie.After-slice-known2 → tie.After-number2
+counted c = let put = c .before .before in put .before .before
+
+abbrev given : tie.Start → Buffers
+given s = buffers (now (s .args .memory)) (now (s .args .table)) (now (s .args .sheet))
+
+-- the definition, once the index is stored
+ended : (c : tie.After-slice-known2) → let a : _ = start (counted c .before) .args in
+    run (a .call) (a .caller) (a .rcx) 0 (a .k) (parted (given (start (counted c .before))))
+    ≡ record {
+      answer = cond (ltb (a .k) (counted c .number2 .result)) Incomplete Success;
+      after = parted (buffers (c .before .before .put-number2 .last .0) (now (a .table)) (now (a .sheet)));
+    }
+unfolding run page-of offset-of page-size
+ended c =
+    let s = start (counted c .before) in
+    rw (count-is (given s) (s .args .rcx) _ (counted c .number2 .ensures), stored-is (s .args .rcx) (s .args .k) _ (now (s .args .table)) (now (s .args .sheet)) _ (c .before .before .put-number2 .ensures))
+
 number2-requires : tie.Need-number2-requires
-unfolding page-size
-number2-requires c κs =
-    let l = start c .pre in
-    record { some = lit< tt; below = omega (arith, pages-tested _ _ (l .tested)); within = omega arith }
+unfolding page-of offset-of page-size
+number2-requires c κs = in-page _ _ _ _ _ _ (start c .pre) (omega arith)
 
 cast-count : tie.Need-cast-count
 cast-count c = search needs
@@ -33,35 +49,24 @@ add-put-number2 : tie.Need-add-put-number2
 add-put-number2 c = search needs
 
 cast-put-number2 : tie.Need-cast-put-number2
+unfolding page-size
 cast-put-number2 c = search needs
 
 put-number2-requires : tie.Need-put-number2-requires
-unfolding page-size
-put-number2-requires c κs =
-    let l = start (c .before .before) .pre in
-    record { some = lit< tt; below = omega (arith, pages-tested _ _ (l .tested)); within = omega arith }
+unfolding page-of offset-of page-size
+put-number2-requires c κs = in-page _ _ _ _ _ _ (start (c .before .before) .pre) (omega arith)
 
 same-length : tie.Need-same-length
 same-length c = search needs
 
 returns : tie.Need-returns
-unfolding run list-count in-list store-index write with-memory page-at page-of offset-of page-size parted
-returns c =
-    let stored = c .before .before .before in
-    let counted = stored .before .before in
-    let a = start (counted .before) .args in
-    rw (add-zero, ← counted .number2 .ensures, lt-ltb _ _ (c .if1 .taken)) (λ i. record { answer = Incomplete; after = record { memory = sym (stored .put-number2 .ensures) i; table = now (a .table); sheet = parts record-size (now (a .sheet)) } })
+returns c = rw (ended (c .before), lt-ltb _ _ (c .if1 .taken))
 
 same-length-2 : tie.Need-same-length-2
 same-length-2 c = search needs
 
 returns-2 : tie.Need-returns-2
-unfolding run list-count in-list store-index write with-memory page-at page-of offset-of page-size parted
-returns-2 c =
-    let stored = c .before .before .before in
-    let counted = stored .before .before in
-    let a = start (counted .before) .args in
-    rw (add-zero, ← counted .number2 .ensures, le-ltb _ _ (c .if1 .left)) (λ i. record { answer = Success; after = record { memory = sym (stored .put-number2 .ensures) i; table = now (a .table); sheet = parts record-size (now (a .sheet)) } })
+returns-2 c = rw (ended (c .before), le-ltb _ _ (c .if1 .left))
 
 pub stop-spec : {M : Type 1} → statement M
 stop-spec =
