@@ -9,9 +9,8 @@ use lib.Seq.{length-take-le, take-at, take-all}
 use Rattle.rules.specs.Words.{page-size, record-size, little, places, each}
 use Rattle.rules.specs.Machine.{Lent, page-of, offset-of, own, grant, change, write, with-memory, written}
 use Rattle.rules.specs.Calls.{is-free, give-back, gpas, withdrawn-pages, withdrawn}
-use Rattle.rules.specs.Flat.{parts, parted}
+use Rattle.rules.specs.Flat.{buffers, parts, parted}
 use Rattle.laws.proofs.Numbers.{length-little}
-use Rattle.laws.proofs.Parts.{length-parts}
 use Rattle.laws.proofs.Ranges.{each-append, length-places, places-append, rising-places, rising→outside}
 use Rattle.laws.specs.Revised.{revise}
 use Rattle.laws.proofs.Counts.{getD-not-revised, count-le-length, table-each, memory-each, sheet-each}
@@ -88,8 +87,7 @@ take-most (suc n) (p ∷ ps) = omega (arith, take-most n ps)
 pub withdrawn-is : (vmpl rcx n : ℕ) (memory table sheet memory′ table′ memory″ : List ℕ) → page-of rcx < length (parts page-size memory)
     → Given vmpl (page-of rcx) (offset-of rcx + 8) (take ((page-size - offset-of rcx - 8) / 8) (places is-free 0 table)) memory table memory′ table′ n
     → parts page-size memory″ ≡ written (page-of rcx) (offset-of rcx) (little 2 n) (parts page-size memory′)
-    → withdrawn vmpl rcx (parted (record { memory = memory; table = table; sheet = sheet }))
-    ≡ parted (record { memory = memory″; table = table′; sheet = sheet })
+    → withdrawn vmpl rcx (parted (buffers memory table sheet)) ≡ parted (buffers memory″ table′ sheet)
 unfolding withdrawn withdrawn-pages give-back write with-memory parted freed revise
 withdrawn-is vmpl rcx n memory table sheet memory′ table′ memory″ h g e =
     let m : Lent = record { memory = parts page-size memory; table = table; sheet = parts record-size sheet } in

@@ -3,7 +3,6 @@
 use mathlib.Core.Path.{_≡_, refl, sym, _∙_}
 use native.Mathlib.Omega.{arith}
 use lib.Dec.{lit<}
-use mathlib.Core.Bool.{true, false}
 use lib.ListN.{getD}
 use denote.Ref.{now}
 use borrow.Author.Tests.{not-true, not-false}
@@ -15,6 +14,16 @@ use borrow.Author.Needs.{needs}
 use Rattle.withdraw_call.proofs.give_back.Statement.{statement}
 use Rattle.withdraw_call.proofs.give_back.Tie as tie
 
+-- the way back, and what is said of the page
+abbrev start : tie.After-is-free → tie.Start
+start c = let known = c .before in known .before .before .before
+
+abbrev asked : tie.After-put-number8-arg → tie.After-is-free
+asked c = c .before .before
+
+told : (c : tie.After-is-free) → is-free (getD (now (start c .args .table)) (start c .args .p) 0) ≡ c .is-free .result
+told c = sym (c .is-free .ensures)
+
 slice-read-b : tie.Need-slice-read-b
 slice-read-b c = search needs
 
@@ -23,18 +32,15 @@ is-free-requires c κs = search needs
 
 returns : tie.Need-returns
 unfolding places
-returns c =
-    let a = c .before .before .before .before .before .args in
-    let in-use : is-free (getD (now (a .table)) (a .p) 0) ≡ false = sym (c .before .is-free .ensures) ∙ not-true (c .before .is-free .result) (c .if1 .taken) in
-    rw in-use (given-none (a .vmpl) (a .page) (a .at) (now (a .memory)) (now (a .table)))
+returns c = rw (told (c .before) ∙ not-true _ (c .if1 .taken)) (given-none _ _ _ _ _)
 
 mul-put-number8 : tie.Need-mul-put-number8
 unfolding most-pages
-mul-put-number8 c = let pre = c .before .before .before .before .before .before .pre in omega (arith, pre .0 .most, pre .1)
+mul-put-number8 c = let pre = start (asked c) .pre in omega (arith, pre .0 .most, pre .1)
 
 put-number8-requires : tie.Need-put-number8-requires
 unfolding page-size
-put-number8-requires c κs = let room = c .before .before .before .before .before .before .pre .0 in record { some = lit< tt; below = room .below; within = room .within }
+put-number8-requires c κs = let room = start (asked c) .pre .0 in record { some = lit< tt; below = room .below; within = room .within }
 
 owned-requires : tie.Need-owned-requires
 owned-requires c κs = search needs
@@ -54,9 +60,9 @@ same-length-2 c = search needs
 returns-2 : tie.Need-returns-2
 unfolding places each little gpas freed page-size
 returns-2 c =
-    let a = c .before .before .before .before .before .before .before .before .before .before .before .args in
-    let free : is-free (getD (now (a .table)) (a .p) 0) ≡ true = sym (c .before .before .before .before .before .before .before .is-free .ensures) ∙ not-false (c .before .before .before .before .before .before .before .is-free .result) (c .before .before .before .before .before .before .if1 .left) in
-    rw free (record { many = refl; freed-all = rw (c .granted .ensures, c .before .owned .ensures); listed = c .before .before .before .before .put-number8 .ensures })
+    let owned = c .before in let put = owned .before .before .before in let at-if1 = put .before .before in
+    rw (told (at-if1 .before) ∙ not-false _ (at-if1 .if1 .left))
+    (record { many = refl; freed-all = rw (c .granted .ensures, owned .owned .ensures); listed = put .put-number8 .ensures })
 
 pub give-back-spec : {M : Type 1} → statement M
 give-back-spec =

@@ -2,7 +2,7 @@
 -- The measure is what is left of the table.
 -- Assumes nothing.
 use mathlib.Core.Path.{_≡_, refl, _∙_}
-use Prim.Native.Nat.{_-_, _<_, _≤_, zero-le}
+use Prim.Native.Nat.{_+_, _-_, _*_, _<_, _≤_, zero-le}
 use native.Mathlib.Omega.{arith}
 use lib.ListN.{length, getD, take}
 use denote.Ref.{now}
@@ -22,11 +22,29 @@ Inv-loop memory₀ table₀ page at room vmpl p₀ taken₀ memory table p taken
 abbrev μ-loop : tie.MeasureT-loop
 μ-loop memory₀ table₀ page at room vmpl p₀ taken₀ memory table p taken = length table₀ - p
 
+-- the way back, each place by the one before it
+abbrev start : tie.At-loop Inv-loop μ-loop → tie.Start Inv-loop μ-loop
+start c = c .before .before .before
+
+abbrev asked : tie.After-give-back-arg2 Inv-loop μ-loop → tie.Else1 Inv-loop μ-loop
+asked c = c .before .before
+
+abbrev gave : tie.After-slice-known4 Inv-loop μ-loop → tie.After-give-back Inv-loop μ-loop
+gave c = let at-table = c .before in at-table .before .before .before
+
+abbrev round : tie.After-give-back Inv-loop μ-loop → tie.At-loop Inv-loop μ-loop
+round c = asked (c .before) .before .before
+
+-- there is room for one more, and no more than one is given
+room : (c : tie.Else1 Inv-loop μ-loop) → start (c .before .before) .args .at + 8 * c .before .before .loop .taken + 8 ≤ page-size
+room c = omega (arith, start (c .before .before) .pre .within, c .if1 .left)
+
+one-more : (c : tie.After-give-back Inv-loop μ-loop) → round c .loop .taken + c .give-back .result ≤ start (round c) .args .room
+one-more c = let l = round c .loop in omega (arith, asked (c .before) .if1 .left, c .give-back .ensures .many, one-place (l .p) (getD (l .table) (l .p) 0))
+
 loop-holds : tie.Need-loop-holds Inv-loop μ-loop
 unfolding places
-loop-holds c =
-    let a = c .before .before .args in
-    (given-none (a .vmpl) (a .page) (a .at) (now (a .memory)) (now (a .table)), zero-le, zero-le, refl, refl)
+loop-holds c = (given-none _ _ _ _ _, zero-le, zero-le, refl, refl)
 
 same-length : tie.Need-same-length Inv-loop μ-loop
 same-length c = c .before .before .loop .inv .4
@@ -36,38 +54,32 @@ same-length-2 c = c .before .before .loop .inv .3
 
 returns : tie.Need-returns Inv-loop μ-loop
 returns c =
-    let l = c .before .before .loop in
-    let full : l .taken ≡ c .before .before .before .before .before .args .room = omega (arith, l .inv .1, c .if1 .taken) in
+    let at-loop = c .before .before in let l = at-loop .loop in
+    let full : l .taken ≡ start at-loop .args .room = omega (arith, l .inv .1, c .if1 .taken) in
     given-full _ _ _ _ _ _ _ _ _ (l .p) full (l .inv .0)
 
 mul-give-back : tie.Need-mul-give-back Inv-loop μ-loop
 unfolding page-size
-mul-give-back c = omega (arith, c .before .before .before .before .before .before .before .pre .within, c .before .before .if1 .left)
+mul-give-back c = omega (arith, room (asked c))
 
 add-give-back : tie.Need-add-give-back Inv-loop μ-loop
 unfolding page-size
-add-give-back c = omega (arith, c .before .before .before .before .before .before .before .pre .within, c .before .before .if1 .left)
+add-give-back c = omega (arith, room (asked c))
 
 give-back-requires : tie.Need-give-back-requires Inv-loop μ-loop
 give-back-requires c κs =
-    let l = c .before .before .before .before .loop in
-    let a = c .before .before .before .before .before .before .before .args in
-    let pre = c .before .before .before .before .before .before .before .pre in (
+    let inside = asked c .before in let l = inside .before .loop in let s = start (inside .before) in (
       record {
-        below = rw (same-parts page-size (now (a .memory)) (l .memory) (l .inv .4)) (pre .below);
-        within = omega (arith, pre .within, c .before .before .if1 .left);
-        most = rw (l .inv .3) (pre .most);
+        below = rw (same-parts page-size (now (s .args .memory)) (l .memory) (l .inv .4)) (s .pre .below);
+        within = omega (arith, room (asked c));
+        most = rw (l .inv .3) (s .pre .most);
       },
-      c .before .before .before .loop-test .taken,
+      inside .loop-test .taken,
     )
 
 add-taken : tie.Need-add-taken Inv-loop μ-loop
 unfolding page-size
-add-taken c =
-    let l = c .before .before .before .before .before .before .before .before .before .loop in
-    let pre = c .before .before .before .before .before .before .before .before .before .before .before .before .pre in
-    let r = c .before .before .before .before .give-back in
-    omega (arith, pre .within, c .before .before .before .before .before .before .before .if1 .left, r .ensures .many, one-place (l .p) (getD (l .table) (l .p) 0))
+add-taken c = omega (arith, start (round (gave c)) .pre .within, one-more (gave c))
 
 add-p : tie.Need-add-p Inv-loop μ-loop
 add-p c = omega arith
@@ -77,14 +89,10 @@ loop-less c = omega arith
 
 loop-again : tie.Need-loop-again Inv-loop μ-loop
 loop-again c =
-    let l = c .before .before .before .before .before .before .before .before .before .loop in
-    let a = c .before .before .before .before .before .before .before .before .before .before .before .before .args in
-    let below = c .before .before .before .before .before .before .before .before .before .before .before .before .pre .below in
-    let r = c .before .before .before .before .give-back in
-    let more : l .p < length (now (a .table)) = omega (arith, l .inv .3, c .before .before .before .before .before .before .before .before .loop-test .taken) in (
-      given-step (a .vmpl) (a .page) (a .at) (l .p) (now (a .memory)) (now (a .table)) (l .memory) (l .table) (r .last .0) (r .last .1 .0) (l .taken) (r .result)
-          more below (l .inv .0) (r .ensures),
-      omega (arith, c .before .before .before .before .before .before .before .if1 .left, r .ensures .many, one-place (l .p) (getD (l .table) (l .p) 0)),
+    let at-loop = round (gave c) in let l = at-loop .loop in let s = start at-loop in let r = gave c .give-back in
+    let more : l .p < length (now (s .args .table)) = omega (arith, l .inv .3, asked (gave c .before) .before .loop-test .taken) in (
+      given-step _ _ _ (l .p) _ _ (l .memory) (l .table) _ _ (l .taken) (r .result) more (s .pre .below) (l .inv .0) (r .ensures),
+      one-more (gave c),
       omega arith,
       r .kept .1 .0 ∙ l .inv .3,
       r .kept .0 ∙ l .inv .4,
@@ -99,7 +107,7 @@ same-length-4 c = c .before .loop .inv .3
 returns-2 : tie.Need-returns-2 Inv-loop μ-loop
 returns-2 c =
     let l = c .before .loop in
-    let end : length (now (c .before .before .before .before .args .table)) ≤ l .p = omega (arith, l .inv .3, c .loop-test .left) in
+    let end : length (now (start (c .before) .args .table)) ≤ l .p = omega (arith, l .inv .3, c .loop-test .left) in
     given-all _ _ _ _ _ _ _ _ _ (l .p) end (l .inv .1) (l .inv .0)
 
 pub give-pages-spec : {M : Type 1} → statement M
