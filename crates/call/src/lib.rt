@@ -6,6 +6,7 @@ pub mod last;
 ghost use mathlib.Core.Path.{_≡_};
 ghost use Rattle.rules.specs.Answers.{Answered, code-number};
 ghost use Rattle.rules.specs.Call;
+ghost use Rattle.rules.specs.Machine.{machine-of};
 ghost use Rattle.rules.specs.Flat.{buffers, parted};
 ghost use Rattle.rules.specs.Promises.{Call-promise};
 ghost use Rattle.sheet.specs.Row.{Row};

@@ -12,7 +12,7 @@ use Rattle.rules.specs.Words.{between, page-size, least-pages, most-pages, reco
 use Rattle.rules.specs.Answers.{refuse}
 use Rattle.rules.specs.Machine.{Lent, amend, record-at, write, with-memory, written}
 use Rattle.rules.specs.Steps.{store, may-store, mark, may-mark}
-use Rattle.rules.specs.Flat.{parts, join, parted, store-bytes, mark-bytes, memory-fits, memory-sized, sheet-sized}
+use Rattle.rules.specs.Flat.{buffers, parts, join, parted, store-bytes, mark-bytes, memory-fits, memory-sized, sheet-sized}
 use Rattle.laws.proofs.Parts.{join-parts, length-parts}
 
 -- what sizes that fit say
@@ -48,7 +48,7 @@ join-sheet sheet e = join-parts records record-size sheet (lit< tt) (sized-sheet
 
 -- the machine of a sheet that is lent alone
 abbrev pub of-sheet : List ℕ → Lent
-of-sheet sheet = parted (record { memory = []; table = []; sheet = sheet })
+of-sheet sheet = parted (buffers [] [] sheet)
 
 module _ (i value : ℕ) (sheet : List ℕ) where
   pub mark-unsized : sheet-sized sheet ≡ false → mark-bytes i value sheet ≡ record { answer = Refused; after = sheet }
@@ -69,7 +69,7 @@ module _ (i value : ℕ) (sheet : List ℕ) where
 
 -- the machine of a memory and a table that are lent without a sheet
 abbrev pub of-memory : List ℕ → List ℕ → Lent
-of-memory table memory = parted (record { memory = memory; table = table; sheet = [] })
+of-memory table memory = parted (buffers memory table [])
 
 module _ (c p offset : ℕ) (bytes table memory : List ℕ) where
   pub store-unsized : memory-sized table memory ≡ false → store-bytes c p offset bytes table memory ≡ record { answer = Refused; after = memory }

@@ -11,7 +11,7 @@ use denote.Ref.{now}
 use Rattle.rules.specs.Words.{records, record-size}
 use Rattle.rules.specs.Machine.{N}
 use Rattle.rules.specs.Call.{bad-machine, no-call}
-use Rattle.rules.specs.Flat.{Buffers, parted, memory-sized, sheet-sized, well-sized}
+use Rattle.rules.specs.Flat.{Buffers, buffers, parted, memory-sized, sheet-sized, well-sized}
 use Rattle.rules.specs.Promises.{Call-promise}
 use Rattle.laws.proofs.FlatLaunch.{well-sized-by, same-sizes}
 use Rattle.laws.specs.Tested.{Tested}
@@ -22,12 +22,13 @@ use Rattle.call.proofs.call.Tie as tie
 
 -- The places that others look back at, each from its neighbour, and what is known there.
 abbrev lent : tie.Start → Buffers
-lent c = record { memory = now (c .args .memory); table = now (c .args .table); sheet = now (c .args .sheet) }
+lent c = buffers (now (c .args .memory)) (now (c .args .table)) (now (c .args .sheet))
 
 abbrev if1-start : tie.Else1 → tie.Start
 if1-start c = let at-fits = c .before .before in at-fits .before .before .before
 
 sized : (c : tie.Else2) → well-sized (lent (if1-start (c .before))) ≡ true
+unfolding records record-size
 sized c = let at-if1 = c .before in well-sized-by (lent (if1-start at-if1)) (sym (at-if1 .before .fits2 .ensures) ∙ not-false _ (at-if1 .if1 .left)) (omega (arith, c .if2 .left))
 
 abbrev at-start : tie.After-pending-arg3 → tie.Start

@@ -14,7 +14,7 @@ use Rattle.rules.specs.declared.Code.the-variants.{Success}
 use Rattle.rules.specs.Answers.{refuse}
 use Rattle.rules.specs.Machine.{Lent, page-of, vcpu, record-at, fields, is-live}
 use Rattle.rules.specs.Calls.{named-by, delete}
-use Rattle.rules.specs.Flat.{Buffers, parts, parted}
+use Rattle.rules.specs.Flat.{Buffers, buffers, parts, parted}
 use Rattle.laws.proofs.Ranges.{lowest-passes}
 use Rattle.laws.specs.Tested.{Tested}
 use Rattle.laws.proofs.Tested.{pages-tested, rows-tested, sheet-tested, caller-below, live-names}
@@ -51,7 +51,7 @@ abbrev named : tie.Else3 → tie.After-lowest
 named c = c .before .before
 
 abbrev machine : tie.After-lowest → Lent
-machine c = parted (record { memory = now (start c .args .memory); table = now (start c .args .table); sheet = now (start c .args .sheet) })
+machine c = parted (buffers (now (start c .args .memory)) (now (start c .args .table)) (now (start c .args .sheet)))
 
 -- the record that is found is the one that RCX means; and what the first three tests have shown of it, once they are passed
 found : (c : tie.After-lowest) → c .lowest .result ≡ named-by (page-of (start c .args .rcx)) (machine c)

@@ -18,7 +18,7 @@ use prog.Wp.{Heap, Calls, Loops, WpFn, Tables}
 use ghost.Atoms.{Atoms, sem}
 use contract.Monad.{Fun, fact}
 use contract.Running.{givenOf, tables, tablesOf}
-use types.Kit.{Given, Item, mean, ⋆, ‵, raw, _⊛_, some, later, _$_, _∵_, !, qed, by, move, keep, drop, use1, use3, split, join, group, rewrite}
+use types.Kit.{Given, Item, mean, ⋆, ‵, raw, _⊛_, some, later, _$_, _∵_, qed, by, move, keep, drop, use1, use3, split, join, group, rewrite}
 use types.Kit.{pick, fsplit, fjoin, fpick, fpack, feqL, suffices, frame, await, done}
 use types.Run.{look, init, forget, stop, hop, fld, from, load, addr, of-opd, and-then, no-more, assigns, land, returns}
 use types.Run.{enter, alloc1, alloc0, params1, pass1, pass0, free1, free0}
@@ -47,6 +47,7 @@ use denote.Triple.Spec.{Meets, tripleOf}
 use denote.Triple.Table.{entered, cited}
 use denote.Triple.Walked.{says, Stays, stay-none, gave-slice, walkOf, AllGo, goes-none, goes-gave-slice, Walks, ends-at, walked, walk-meets}
 use denote.Exit.{yes}
+use Rattle.rules.specs.Flat.{buffers}
 use Rattle.rules.specs.Promises.{Call-promise}
 use Rattle.rules.specs.declared.Registers.{Registers}
 use Rattle.rules.specs.declared.Outcome.{Outcome}
@@ -60,9 +61,7 @@ use Rattle.call.proofs.Called.Laws as D′
 use Rattle.door.proofs.Values.{slice-val, registers-val, outcome-val, counted}
 use Rattle.door.proofs.in_place.call as in-place
 use Rattle.door.proofs.in_place.call.Symbol as in-place-def
-use Rattle.door.proofs.in_place.call.Symbol.{name as #door·in-place·call}
 use Rattle.door.proofs.in_place.call.Met as in-place-thm
-use Rattle.in_place.proofs.lent.Key.{name as #in-place·lent}
 use Rattle.in_place.proofs.lent as lent
 use Rattle.in_place.proofs.lent.Statement as stated
 use Rattle.in_place.proofs.lent.Code as code
@@ -185,10 +184,10 @@ module _ {M : Type 1} (𝓤 : URA M) (H : Heap 𝓤) (A : Atoms 𝓤) (W : Given
   -- what the callee says of its answer, of the last bytes and of the last registers
   abbrev Said : Outcome → Ends → Type 0
   Said r zs =
-      Call-promise n (record { registers = g; machine = record { memory = m .now; table = t .now; sheet = s .now } })
+      Call-promise n (record { registers = g; machine = buffers (m .now) (t .now) (s .now) })
       (record {
         answer = r;
-        after = record { registers = zs .1 .1 .1 .0; machine = record { memory = zs .0; table = zs .1 .0; sheet = zs .1 .1 .0 } };
+        after = record { registers = zs .1 .1 .1 .0; machine = buffers (zs .0) (zs .1 .0) (zs .1 .1 .0) };
       })
 
   -- what is left where the locals are freed

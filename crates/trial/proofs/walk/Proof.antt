@@ -4,7 +4,6 @@ use Prim.Native.Nat.{suc, _-_, _≤_, zero-le}
 use native.Mathlib.Omega.{arith}
 use borrow.Author.Needs.{needs}
 use lib.ListN.{length}
-use denote.Ref.{now}
 use Rattle.trial.proofs.walk.Statement.{statement}
 use Rattle.trial.proofs.walk.Tie as tie
 

@@ -19,7 +19,7 @@ use prog.Wp.{Heap, Calls, Loops, WpFn, Tables}
 use ghost.Atoms.{Atoms}
 use contract.Monad.{Fun, fact}
 use contract.Running.{givenOf, tables, tablesOf}
-use types.Kit.{Given, Item, mean, ⋆, ‵, raw, _⊛_, some, later, _$_, _∵_, !, qed, by, move, keep, drop, use1, split, join, group, rewrite}
+use types.Kit.{Given, Item, mean, ⋆, ‵, raw, _⊛_, some, later, _$_, _∵_, qed, by, move, keep, drop, use1, split, join, group, rewrite}
 use types.Kit.{pick, fsplit, fsplit3, fjoin, fjoin3, feqI, feqL, suffices, frame, await, done}
 use types.Run.{look, look-raw, init, store-raw, forget, stop, hop, fld, from, load, addr, of-opd, and-then, no-more, assigns, land, returns}
 use types.Run.{enter, alloc1, alloc0, params1, pass1, pass0, free1, free0}
@@ -47,6 +47,7 @@ use denote.Triple.Table.{entered, cited}
 use denote.Triple.Walked.{says, Stays, stay-ref, stay-none, gave-slice, walkOf, AllGo, goes-none, goes-ref, goes-gave-slice, Walks, ends-at}
 use denote.Triple.Walked.{walked, walk-meets}
 use denote.Exit.{yes}
+use Rattle.rules.specs.Flat.{buffers}
 use Rattle.rules.specs.Promises.{Call-promise}
 use Rattle.rules.specs.declared.Registers.{Registers}
 use Rattle.rules.proofs.Registers as R
@@ -58,10 +59,8 @@ use Rattle.call.proofs.Called as D
 use Rattle.call.proofs.Called.Laws as D′
 use Rattle.call.proofs.call as by-value
 use Rattle.call.proofs.call.Symbol as by-value-def
-use Rattle.call.proofs.call.Symbol.{name as #call·call}
 use Rattle.call.proofs.call.Met as by-value-thm
 use Rattle.door.proofs.Values.{slice-val, registers-val, outcome-val, counted}
-use Rattle.door.proofs.in_place.call.Key.{name as #door·in-place·call}
 use Rattle.door.proofs.in_place.call as call
 use Rattle.door.proofs.in_place.call.Statement as stated
 use Rattle.door.proofs.in_place.call.Code as code
@@ -151,10 +150,10 @@ module _ {M : Type 1} (𝓤 : URA M) (H : Heap 𝓤) (A : Atoms 𝓤) (W : Given
   -- what the callee says of its result and of the last bytes
   abbrev Said : Called → Ends → Type 0
   Said r zs =
-      Call-promise n (record { registers = g; machine = record { memory = m .now; table = t .now; sheet = s .now } })
+      Call-promise n (record { registers = g; machine = buffers (m .now) (t .now) (s .now) })
       (record {
         answer = r .outcome;
-        after = record { registers = r .registers; machine = record { memory = zs .0; table = zs .1 .0; sheet = zs .1 .1 .0 } };
+        after = record { registers = r .registers; machine = buffers (zs .0) (zs .1 .0) (zs .1 .1 .0) };
       })
 
   -- what is left where the locals are freed

@@ -10,7 +10,7 @@ use denote.Ref.{now}
 use Rattle.rules.specs.Words.{records, record-size}
 use Rattle.rules.specs.Machine.{N, page-at}
 use Rattle.rules.specs.Launch.{out-of-range, areas-meet}
-use Rattle.rules.specs.Flat.{Buffers, parted, memory-sized, sheet-sized, well-sized}
+use Rattle.rules.specs.Flat.{Buffers, buffers, parted, memory-sized, sheet-sized, well-sized}
 use Rattle.rules.specs.Promises.{Launch-promise}
 use Rattle.laws.proofs.FlatSteps.{sizes, length-pages}
 use Rattle.laws.proofs.FlatLaunch.{well-sized-by, same-sizes, in-range, launch-unsized, launch-out-of-range, launch-areas-meet, launch-unfit, launch-made}
@@ -18,8 +18,8 @@ use borrow.Author.Needs.{needs}
 use Rattle.monitor.proofs.launch.launch.Statement.{statement}
 use Rattle.monitor.proofs.launch.launch.Tie as tie
 
-abbrev buffers : tie.Start → Buffers
-buffers s = record { memory = now (s .args .memory); table = now (s .args .table); sheet = now (s .args .sheet) }
+abbrev lent : tie.Start → Buffers
+lent s = buffers (now (s .args .memory)) (now (s .args .table)) (now (s .args .sheet))
 
 -- the way back, each place by the one before it
 abbrev start₁ : tie.Else1 → tie.Start
@@ -36,9 +36,9 @@ fits : (c : tie.Else1) → memory-sized (now (start₁ c .args .table)) (now (st
 unfolding memory-sized
 fits c = sym (c .before .fits2 .ensures) ∙ not-false _ (c .if1 .left)
 
-sized : (c : tie.Else2) → well-sized (buffers (start₁ (c .before))) ≡ true
+sized : (c : tie.Else2) → well-sized (lent (start₁ (c .before))) ≡ true
 unfolding memory-sized record-size records
-sized c = well-sized-by (buffers (start₁ (c .before))) (fits (c .before)) (omega arith)
+sized c = well-sized-by (lent (start₁ (c .before))) (fits (c .before)) (omega arith)
 
 within : (c : tie.Else4) → out-of-range (start₁ (else₂ c .before) .args .plan) (length (now (start₁ (else₂ c .before) .args .table))) ≡ false
 within c = sym (c .before .out-of-range .ensures) ∙ c .if4 .left
@@ -122,7 +122,7 @@ returns-7 c =
     let s = sized (else₂ ranged) in
     let kept = made .make .kept in
     launch-made _ _ _ s (eq-eqb _ _ (ranged .before .before .if3 .left)) (within ranged) (apart past) _ (sym (tested .before .is-unfit .ensures) ∙ tested .if6 .left)
-    (same-sizes (buffers (start₁ (else₂ ranged .before))) _ (kept .0) (kept .1 .0) (kept .1 .1 .0) ∙ s) (made .make .ensures)
+    (same-sizes (lent (start₁ (else₂ ranged .before))) _ (kept .0) (kept .1 .0) (kept .1 .1 .0) ∙ s) (made .make .ensures)
 
 pub launch-spec : {M : Type 1} → statement M
 launch-spec =

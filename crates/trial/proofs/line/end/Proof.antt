@@ -2,9 +2,7 @@
 -- Assumes nothing.
 use Prim.Native.Nat.{_-_, _≤_}
 use native.Mathlib.Omega.{arith}
-use borrow.Author.Needs.{needs}
 use lib.ListN.{length}
-use denote.Ref.{now}
 use Rattle.trial.proofs.line.end.Statement.{statement}
 use Rattle.trial.proofs.line.end.Tie as tie
 

@@ -4,7 +4,6 @@ use Prim.Native.Nat.{_-_, _≤_, zero-le}
 use native.Mathlib.Omega.{arith}
 use borrow.Author.Needs.{needs}
 use lib.ListN.{length}
-use denote.Ref.{now}
 use Rattle.trial.proofs.line.put.Statement.{statement}
 use Rattle.trial.proofs.line.put.Tie as tie
 
