@@ -18,9 +18,6 @@ use Rattle.withdraw_call.proofs.give_back.Tie as tie
 abbrev start : tie.After-is-free → tie.Start
 start c = let known = c .before in known .before .before .before
 
-abbrev asked : tie.After-put-number8-arg → tie.After-is-free
-asked c = c .before .before
-
 told : (c : tie.After-is-free) → is-free (getD (now (start c .args .table)) (start c .args .p) 0) ≡ c .is-free .result
 told c = sym (c .is-free .ensures)
 
@@ -36,11 +33,11 @@ returns c = rw (told (c .before) ∙ not-true _ (c .if1 .taken)) (given-none _ _
 
 mul-put-number8 : tie.Need-mul-put-number8
 unfolding most-pages
-mul-put-number8 c = let pre = start (asked c) .pre in omega (arith, pre .0 .most, pre .1)
+mul-put-number8 c = let pre = start (c .before .before) .pre in omega (arith, pre .0 .most, pre .1)
 
 put-number8-requires : tie.Need-put-number8-requires
 unfolding page-size
-put-number8-requires c κs = let room = start (asked c) .pre .0 in record { some = lit< tt; below = room .below; within = room .within }
+put-number8-requires c κs = let room = start (c .before .before) .pre .0 in record { some = lit< tt; below = room .below; within = room .within }
 
 owned-requires : tie.Need-owned-requires
 owned-requires c κs = search needs

@@ -3,7 +3,6 @@
 -- Assumes nothing.
 use mathlib.Core.Path.{_≡_, refl, sym, ap, _∙_}
 use mathlib.Core.Bool.{Bool, true, not, _&&_, and-false}
-use mathlib.Core.List.{List}
 use Prim.Native.Nat.{ℕ, _+_, _-_, _*_, _≤_, zero-le}
 use native.Mathlib.Omega.{arith}
 use native.Mathlib.Numerals.{add-one}
@@ -21,11 +20,8 @@ use Rattle.entries.proofs.Coverable.{coverable-is}
 use Rattle.entries.proofs.covered.all_coverable.Statement.{statement}
 use Rattle.entries.proofs.covered.all_coverable.Tie as tie
 
-abbrev test : List ℕ → ℕ → ℕ → ℕ → Bool
-test table vmpl list = coverable vmpl (page-size * list) (table-alone table)
-
 abbrev Inv-loop : tie.InvT-loop
-Inv-loop table vmpl first n list i₀ i = (i ≤ n) × (every (test table vmpl list) (range first i) ≡ true)
+Inv-loop table vmpl first n list i₀ i = (i ≤ n) × (every (coverable vmpl (page-size * list) (table-alone table)) (range first i) ≡ true)
 
 abbrev μ-loop : tie.MeasureT-loop
 μ-loop table vmpl first n list i₀ i = n - i
@@ -38,7 +34,7 @@ abbrev round : tie.After-owner-of Inv-loop μ-loop → tie.At-loop Inv-loop μ-l
 round c = c .before .before .before
 
 abbrev tested : tie.At-loop Inv-loop μ-loop → ℕ → Bool
-tested c = let a = start c .args in test (now (a .table)) (a .vmpl) (a .list)
+tested c = let a = start c .args in coverable (a .vmpl) (page-size * a .list) (table-alone (now (a .table)))
 
 abbrev page : tie.At-loop Inv-loop μ-loop → ℕ
 page c = start c .args .first + c .loop .i

@@ -2,25 +2,23 @@
 -- Assumes nothing.
 use mathlib.Core.Path.{_≡_}
 use mathlib.Core.Bool.{not, _&&_, _||_}
-use Prim.Native.Nat.{_/_, _%_}
+use Prim.Native.Nat.{ℕ, _/_, _%_}
 use native.Mathlib.Omega.{arith}
 use borrow.Author.Tests.{lt-ltb, le-ltb, eq-eqb, ne-eqb}
 use lib.Dec.{eqb}
 use Rattle.rules.specs.Words.{multiple, large}
+use Rattle.rules.specs.declared.ListCall.{ListCall}
 use Rattle.rules.specs.Lists.{malformed}
 use Rattle.entries.proofs.Reading.{size-is, first-is}
 use borrow.Author.Needs.{needs}
 use Rattle.entries.proofs.reader.is_malformed.Statement.{statement}
 use Rattle.entries.proofs.reader.is_malformed.Tie as tie
 
-abbrev start : tie.After-reserved → tie.Start
-start c = c .before .before
-
 -- the definition, once the size is 0 or 1
-told : (c : tie.After-reserved) → malformed (start c .args .call) (start c .args .e)
-    ≡ (not (eqb (c .reserved .result) 0) || eqb (start c .args .e % 4) 1 && not (eqb (start c .args .e / 4096 % large) 0))
+told : (c : tie.After-reserved) → let call : ListCall = c .before .before .args .call in let e : ℕ = c .before .before .args .e in
+    malformed call e ≡ (not (eqb (c .reserved .result) 0) || eqb (e % 4) 1 && not (eqb (e / 4096 % large) 0))
 unfolding malformed multiple
-told c = rw (size-is (start c .args .e), le-ltb 1 _ (c .before .if1 .left), ← c .reserved .ensures, first-is (start c .args .e) (omega arith))
+told c = let e = c .before .before .args .e in rw (size-is e, le-ltb 1 _ (c .before .if1 .left), ← c .reserved .ensures, first-is e (omega arith))
 
 returns : tie.Need-returns
 unfolding malformed

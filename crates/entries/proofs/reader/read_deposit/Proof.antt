@@ -19,9 +19,8 @@ use Rattle.entries.proofs.reader.read_deposit.Tie as tie
 abbrev start : tie.After-count-valid → tie.Start
 start c = c .before .before
 
-all-told : (c : tie.After-count-valid)
-    → every (usable (start c .args .vmpl) (table-alone (now (start c .args .table)))) (range (start c .args .first) (start c .args .n))
-    ≡ eqb (c .count-valid .result) (start c .args .n)
+all-told : (c : tie.After-count-valid) → let a : _ = start c .args in
+    every (usable (a .vmpl) (table-alone (now (a .table)))) (range (a .first) (a .n)) ≡ eqb (c .count-valid .result) (a .n)
 all-told c =
     let a = start c .args in
     every-same (usable (a .vmpl) (table-alone (now (a .table)))) (valid-at (now (a .table))) (a .first) (a .n)
