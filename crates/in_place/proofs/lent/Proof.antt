@@ -18,7 +18,7 @@ use prog.Wp.{Heap, Calls, Loops, WpFn, Tables}
 use ghost.Atoms.{Atoms, sem}
 use contract.Monad.{Fun, fact}
 use contract.Running.{givenOf, tables, tablesOf}
-use types.Kit.{Given, Item, mean, ⋆, ‵, raw, _⊛_, some, later, _$_, _∵_, qed, by, move, keep, drop, use1, use3, split, join, group, rewrite}
+use types.Kit.{Given, Item, mean, ⋆, ‵, raw, _⊛_, some, later, _$_, _∵_, !, qed, by, move, keep, drop, use1, use3, split, join, group, rewrite}
 use types.Kit.{pick, fsplit, fjoin, fpick, fpack, feqL, suffices, frame, await, done}
 use types.Run.{look, init, forget, stop, hop, fld, from, load, addr, of-opd, and-then, no-more, assigns, land, returns}
 use types.Run.{enter, alloc1, alloc0, params1, pass1, pass0, free1, free0}
@@ -61,7 +61,9 @@ use Rattle.call.proofs.Called.Laws as D′
 use Rattle.door.proofs.Values.{slice-val, registers-val, outcome-val, counted}
 use Rattle.door.proofs.in_place.call as in-place
 use Rattle.door.proofs.in_place.call.Symbol as in-place-def
+use Rattle.door.proofs.in_place.call.Symbol.{name as #door·in-place·call}
 use Rattle.door.proofs.in_place.call.Met as in-place-thm
+use Rattle.in_place.proofs.lent.Key.{name as #in-place·lent}
 use Rattle.in_place.proofs.lent as lent
 use Rattle.in_place.proofs.lent.Statement as stated
 use Rattle.in_place.proofs.lent.Code as code

@@ -19,7 +19,7 @@ use prog.Wp.{Heap, Calls, Loops, WpFn, Tables}
 use ghost.Atoms.{Atoms}
 use contract.Monad.{Fun, fact}
 use contract.Running.{givenOf, tables, tablesOf}
-use types.Kit.{Given, Item, mean, ⋆, ‵, raw, _⊛_, some, later, _$_, _∵_, qed, by, move, keep, drop, use1, split, join, group, rewrite}
+use types.Kit.{Given, Item, mean, ⋆, ‵, raw, _⊛_, some, later, _$_, _∵_, !, qed, by, move, keep, drop, use1, split, join, group, rewrite}
 use types.Kit.{pick, fsplit, fsplit3, fjoin, fjoin3, feqI, feqL, suffices, frame, await, done}
 use types.Run.{look, look-raw, init, store-raw, forget, stop, hop, fld, from, load, addr, of-opd, and-then, no-more, assigns, land, returns}
 use types.Run.{enter, alloc1, alloc0, params1, pass1, pass0, free1, free0}
@@ -59,8 +59,10 @@ use Rattle.call.proofs.Called as D
 use Rattle.call.proofs.Called.Laws as D′
 use Rattle.call.proofs.call as by-value
 use Rattle.call.proofs.call.Symbol as by-value-def
+use Rattle.call.proofs.call.Symbol.{name as #call·call}
 use Rattle.call.proofs.call.Met as by-value-thm
 use Rattle.door.proofs.Values.{slice-val, registers-val, outcome-val, counted}
+use Rattle.door.proofs.in_place.call.Key.{name as #door·in-place·call}
 use Rattle.door.proofs.in_place.call as call
 use Rattle.door.proofs.in_place.call.Statement as stated
 use Rattle.door.proofs.in_place.call.Code as code
