@@ -3,7 +3,7 @@ ghost use mathlib.Core.Path.{_≡_};
 ghost use Rattle.rules.specs.Lists.{bad-list-page};
 ghost use Rattle.laws.specs.Alone.{table-alone};
 
-// It looks at the table alone: the law `list-page-table` of `laws` carries it to a machine with memory and sheet.
+// It looks at the table alone: the law `list-page-table` carries it to a machine with memory and sheet.
 pub fn bad_list_page(table: &[u8], vmpl: u8, rcx: u64) -> bool
     ensures { λ r. ⌜ r ≡ bad-list-page vmpl rcx (table-alone (now (table .entry))) ⌝ }
 {

@@ -48,11 +48,8 @@ listed c upto h =
     let l = c .loop in let p = start c .pre in
     record { tested = still-tested _ _ _ (p .tested) (l .inv .1) (l .inv .2) refl; below = rw (l .inv .2) (p .below); within = omega (arith, p .within, h) }
 
-abbrev next : tie.In-loop Inv-loop μ-loop → ℕ
-next c = c .before .loop .k + 1
-
-room : (c : tie.In-loop Inv-loop μ-loop) → Listed (kept (c .before)) (start (c .before) .args .caller) (start (c .before) .args .rcx) (next c)
-room c = listed (c .before) (next c) (omega (arith, c .loop-test .taken))
+room : (c : tie.In-loop Inv-loop μ-loop) → Listed (kept (c .before)) (start (c .before) .args .caller) (start (c .before) .args .rcx) (c .before .loop .k + 1)
+room c = listed (c .before) (c .before .loop .k + 1) (omega (arith, c .loop-test .taken))
 
 asks : (c : tie.At-loop Inv-loop μ-loop) → vcpu (parted (kept c)) (start c .args .caller) .vmpl ≡ c .before .byte .result
 unfolding record-size
