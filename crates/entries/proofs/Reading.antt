@@ -1,20 +1,18 @@
 -- An entry's reading, test by test: what each test that the code makes says of the definition.
 -- Assumes nothing.
 use mathlib.Core.Path.{_≡_, sym, _∙_, ap, ap₂}
-use mathlib.Core.Bool.{Bool, true, false, cond, not, _&&_}
+use mathlib.Core.Bool.{Bool, true, false}
 use mathlib.Core.List.{List}
 use Prim.Native.Nat.{ℕ, _+_, _*_, _/_, _%_, _^_, _<_, _≤_}
 use native.Mathlib.Omega.{arith}
 use native.Mathlib.Nat.{div-one, mod-eq-of-lt}
 use lib.Dec.{eqb}
 use lib.ListN.{length}
-use Rattle.rules.specs.declared.Code.the-variants.{Address, Parameter, SizeMismatch, NoChange}
+use Rattle.rules.specs.declared.Code.the-variants.{Address, Parameter}
 use Rattle.rules.specs.declared.ListCall.{ListCall}
 use Rattle.rules.specs.declared.ListCall.the-variants.{Pvalidate, Deposit}
-use Rattle.rules.specs.declared.Wish.the-variants.{Invalid, Valid}
-use Rattle.rules.specs.declared.Entry.{Entry}
-use Rattle.rules.specs.declared.Entry.the-variants.{Reads, Unread}
-use Rattle.rules.specs.Words.{page-size, large, bit, bits, range, every, count}
+use Rattle.rules.specs.declared.Entry.the-variants.{Unread}
+use Rattle.rules.specs.Words.{page-size, large, bits, range, every, count}
 use Rattle.rules.specs.Machine.{N, table-byte, usable}
 use Rattle.rules.specs.Lists.{entry-first, entry-pages, covered, malformed, coverable, read-covered, read-entry}
 use Rattle.laws.specs.Alone.{table-alone}
@@ -47,19 +45,9 @@ module _ (table : List ℕ) (first n found : ℕ) (counted : found ≡ count (va
   none-by-count : every (invalid-at table) (range first n) ≡ eqb found 0
   none-by-count = every-not (valid-at table) (range first n) ∙ ap (λ (k : ℕ). eqb k 0) (sym counted)
 
-  module _ (e : ℕ) where
-    abbrev told : Entry
-    told = judged (every (valid-at table) (range first n)) (every (invalid-at table) (range first n)) e first n
-
-    pub judged-mixed : (not (eqb found n) && not (eqb found 0)) ≡ true → told ≡ Unread SizeMismatch
-    judged-mixed t = rw (all-by-count, none-by-count, t)
-
-    module _ (even : (not (eqb found n) && not (eqb found 0)) ≡ false) where
-      pub judged-same : (cond (bit 2 e) (eqb found n) (eqb found 0) && not (bit 3 e)) ≡ true → told ≡ Unread NoChange
-      judged-same t = rw (all-by-count, none-by-count, even, t)
-
-      pub judged-read : (cond (bit 2 e) (eqb found n) (eqb found 0) && not (bit 3 e)) ≡ false → told ≡ Reads first n (cond (bit 2 e) Valid Invalid)
-      judged-read t = rw (all-by-count, none-by-count, even, t)
+  pub judged-by-count : (e : ℕ)
+      → judged (every (valid-at table) (range first n)) (every (invalid-at table) (range first n)) e first n ≡ judged (eqb found n) (eqb found 0) e first n
+  judged-by-count e = rw (all-by-count, none-by-count)
 
 -- ---- the whole reading
 

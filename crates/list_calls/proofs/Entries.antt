@@ -20,7 +20,7 @@ use Rattle.rules.specs.Lists.{in-list, list-count, list-next, list-entry, store
 use Rattle.rules.specs.Lists.{carry-out-all, after-entry, run}
 use Rattle.rules.specs.Call.{bad-machine}
 use Rattle.rules.specs.Flat.{Buffers, buffers, parts, parted}
-use Rattle.laws.proofs.Ranges.{by-test, every-same}
+use Rattle.laws.proofs.Ranges.{by-test}
 use Rattle.laws.proofs.FlatLaunch.{same-sizes}
 use Rattle.laws.proofs.Tested.{pages-tested}
 use Rattle.laws.proofs.Usable.{usable-alone}
@@ -34,18 +34,17 @@ use Rattle.list_calls.specs.Listed.{Listed}
 
 -- what an entry reads as goes by the table and the list's page alone
 covered-same : (call : ListCall) (vmpl e : ℕ) (m : Lent) → read-covered call vmpl e m ≡ read-covered call vmpl e (table-alone (m .table))
-unfolding read-covered covered table-byte
+unfolding read-covered table-byte
 covered-same Pvalidate vmpl e m = refl
 covered-same Deposit vmpl e m =
-    rw (every-same (usable vmpl m) (usable vmpl (table-alone (m .table))) (entry-first e) (entry-pages e) (λ p l h. usable-alone vmpl m p))
+    let same : usable vmpl m ≡ usable vmpl (table-alone (m .table)) = λ i p. usable-alone vmpl m p i in
+    rw same
 
 read-is : (call : ListCall) (vmpl rcx e : ℕ) (m : Lent) → read-entry call vmpl rcx e m ≡ read-at call vmpl (page-of rcx) e (m .table)
-unfolding read-at read-entry covered
+unfolding read-at read-entry
 read-is call vmpl rcx e m =
-    rw (
-      every-same (coverable vmpl rcx m) (coverable vmpl (page-size * page-of rcx) (table-alone (m .table))) (entry-first e) (entry-pages e) (λ p l h. coverable-alone vmpl rcx m p),
-      covered-same call vmpl e m,
-    )
+    let same : coverable vmpl rcx m ≡ coverable vmpl (page-size * page-of rcx) (table-alone (m .table)) = λ i p. coverable-alone vmpl rcx m p i in
+    rw (same, covered-same call vmpl e m)
 
 -- one entry of a run
 module _ (call : ListCall) (caller rcx vmpl todo k e : ℕ) (m : Lent) (asks : vcpu m caller .vmpl ≡ vmpl) (entry : list-entry k rcx m ≡ e) (some : 0 < todo) where
@@ -94,11 +93,7 @@ reads-within call vmpl list e table first count wish h = rw h at (read-ends call
 pub still-tested : (b a : Buffers) (caller : ℕ) → Tested b caller → length (a .memory) ≡ length (b .memory) → length (a .table) ≡ length (b .table)
     → a .sheet ≡ b .sheet → Tested a caller
 unfolding bad-machine parted N
-still-tested b a caller t m l s =
-    record {
-      sized = same-sizes b a m l (ap length s) ∙ t .sized;
-      shape = rw (l, s) (t .shape);
-    }
+still-tested b a caller t m l s = record { sized = same-sizes b a m l (ap length s) ∙ t .sized; shape = rw (l, s) (t .shape) }
 
 -- a place in the list
 pub in-page : (b : Buffers) (caller rcx upto at width : ℕ) → Listed b caller rcx upto → at + width ≤ offset-of rcx + 8 + 8 * upto

@@ -27,9 +27,6 @@ abbrev μ-loop : tie.MeasureT-loop
 abbrev start : tie.At-loop Inv-loop μ-loop → tie.Start Inv-loop μ-loop
 start c = c .before .before .before
 
-abbrev looped : tie.After-carry-out-arg2 Inv-loop μ-loop → tie.At-loop Inv-loop μ-loop
-looped c = c .before .before .before
-
 abbrev carried : tie.After-slice-known4 Inv-loop μ-loop → tie.After-carry-out Inv-loop μ-loop
 carried c = let at-table = c .before in at-table .before .before .before
 
@@ -41,7 +38,7 @@ add-carry-out c = omega arith
 
 carry-out-requires : tie.Need-carry-out-requires Inv-loop μ-loop
 carry-out-requires c κs =
-    let l = looped c .loop in let s = start (looped c) in
+    let at-loop = c .before .before .before in let l = at-loop .loop in let s = start at-loop in
     record {
       within = omega (arith, s .pre .within, l .inv .2, c .before .before .loop-test .taken);
       pages = same-parts page-size (now (s .args .memory)) (l .memory) (l .inv .3) ∙ s .pre .pages ∙ sym (l .inv .2);
@@ -55,7 +52,7 @@ loop-less c = omega arith
 
 loop-again : tie.Need-loop-again Inv-loop μ-loop
 loop-again c =
-    let l = looped (carried c .before) .loop in let r = carried c .carry-out in (
+    let at-carry = carried c .before in let l = at-carry .before .before .before .loop in let r = carried c .carry-out in (
       rw (add-one (l .i)) (carry-out-more _ _ _ (l .i) _ ∙ rw (l .inv .0) (r .ensures)),
       omega arith,
       r .kept .1 .0 ∙ l .inv .2,

@@ -27,50 +27,47 @@ abbrev lent : tie.Start → Lent
 lent s = parted (given s)
 
 -- the way back, each place by the one before it
-abbrev start₁ : tie.Else1 → tie.Start
-start₁ c = let known = c .before in known .before .before .before
-
-abbrev start₂ : tie.After-bad-list-page → tie.Start
-start₂ c = start₁ (c .before .before .before)
+abbrev start : tie.After-bad-list-page → tie.Start
+start c = let at-if1 = c .before .before .before in let known = at-if1 .before in known .before .before .before
 
 abbrev at-page : tie.After-number2 → tie.After-bad-list-page
 at-page c = c .before .before .before
 
-abbrev start₃ : tie.After-number2 → tie.Start
-start₃ c = start₂ (at-page c)
+abbrev start-of : tie.After-number2 → tie.Start
+start-of c = start (at-page c)
 
 abbrev at-count : tie.Else4 → tie.After-number2
 at-count c = c .before .before
 
-abbrev else₄ : tie.After-number22 → tie.Else4
-else₄ c = c .before .before
+abbrev else4 : tie.After-number22 → tie.Else4
+else4 c = c .before .before
 
 -- what each place knows, in the definition's words
-aligned : (c : tie.After-bad-list-page) → multiple 8 (start₂ c .args .rcx) ≡ true
+aligned : (c : tie.After-bad-list-page) → multiple 8 (start c .args .rcx) ≡ true
 unfolding multiple
 aligned c = eq-eqb _ 0 (c .before .before .before .if1 .left)
 
 page-is : (c : tie.After-bad-list-page)
-    → bad-list-page (vcpu (lent (start₂ c)) (start₂ c .args .caller) .vmpl) (start₂ c .args .rcx) (lent (start₂ c)) ≡ c .bad-list-page .result
+    → bad-list-page (vcpu (lent (start c)) (start c .args .caller) .vmpl) (start c .args .rcx) (lent (start c)) ≡ c .bad-list-page .result
 unfolding record-size
-page-is c = page-told (start₂ c .args .caller) (given (start₂ c)) (start₂ c .args .rcx) _ _ (c .before .before .byte .ensures) (c .bad-list-page .ensures)
+page-is c = page-told (start c .args .caller) (given (start c)) (start c .args .rcx) _ _ (c .before .before .byte .ensures) (c .bad-list-page .ensures)
 
-page-inside : (c : tie.Else2) → page-of (start₂ (c .before) .args .rcx) < length (parts page-size (given (start₂ (c .before)) .memory))
-page-inside c = page-within _ (given (start₂ (c .before))) _ _ (start₂ (c .before) .pre) (page-is (c .before) ∙ c .if2 .left)
+page-inside : (c : tie.Else2) → page-of (start (c .before) .args .rcx) < length (parts page-size (given (start (c .before)) .memory))
+page-inside c = page-within _ (given (start (c .before))) _ _ (start (c .before) .pre) (page-is (c .before) ∙ c .if2 .left)
 
-count-told : (c : tie.After-number2) → list-count (start₃ c .args .rcx) (lent (start₃ c)) ≡ c .number2 .result
+count-told : (c : tie.After-number2) → list-count (start-of c .args .rcx) (lent (start-of c)) ≡ c .number2 .result
 unfolding page-of offset-of page-size
-count-told c = count-is (given (start₃ c)) _ _ (c .number2 .ensures)
+count-told c = count-is (given (start-of c)) _ _ (c .number2 .ensures)
 
-good-count : (c : tie.Else4) → bad-count (start₃ (at-count c) .args .rcx) (lent (start₃ (at-count c))) ≡ false
+good-count : (c : tie.Else4) → bad-count (start-of (at-count c) .args .rcx) (lent (start-of (at-count c))) ≡ false
 unfolding bad-count offset-of page-size
 good-count c =
-    let end = offset-of (start₃ (at-count c) .args .rcx) + 8 + 8 * at-count c .number2 .result in
+    let end = offset-of (start-of (at-count c) .args .rcx) + 8 + 8 * at-count c .number2 .result in
     rw (count-told (at-count c), ne-eqb _ 0 (c .before .if3 .left), le-ltb page-size end (omega (arith, c .if4 .left)))
 
-next-told : (c : tie.After-number22) → list-next (start₃ (at-count (else₄ c)) .args .rcx) (lent (start₃ (at-count (else₄ c)))) ≡ c .number22 .result
+next-told : (c : tie.After-number22) → list-next (start-of (at-count (else4 c)) .args .rcx) (lent (start-of (at-count (else4 c)))) ≡ c .number22 .result
 unfolding page-of offset-of page-size
-next-told c = next-is (given (start₃ (at-count (else₄ c)))) _ _ (c .number22 .ensures)
+next-told c = next-is (given (start-of (at-count (else4 c)))) _ _ (c .number22 .ensures)
 
 returns : tie.Need-returns
 unfolding list-call refuse multiple
@@ -78,7 +75,7 @@ returns c = rw (ne-eqb _ 0 (c .if1 .taken))
 
 byte-requires : tie.Need-byte-requires
 unfolding record-size
-byte-requires c κs = vmpl-place _ _ (start₁ c .pre)
+byte-requires c κs = let known = c .before in vmpl-place _ _ (known .before .before .before .pre)
 
 bad-list-page-requires : tie.Need-bad-list-page-requires
 bad-list-page-requires c κs = search needs
@@ -126,7 +123,7 @@ returns-4 : tie.Need-returns-4
 unfolding list-call refuse bad-count offset-of page-size
 returns-4 c =
     let counted = c .before .before in
-    let end = offset-of (start₃ counted .args .rcx) + 8 + 8 * counted .number2 .result in
+    let end = offset-of (start-of counted .args .rcx) + 8 + 8 * counted .number2 .result in
     rw (aligned (at-page counted), page-is (at-page counted) ∙ counted .before .before .if2 .left, count-told counted, ne-eqb _ 0 (c .before .if3 .left), lt-ltb page-size end (omega arith))
 
 add-number2 : tie.Need-add-number2
@@ -148,8 +145,8 @@ same-length-7 c = search needs
 returns-5 : tie.Need-returns-5
 unfolding list-call refuse bad-next
 returns-5 c =
-    let counted = at-count (else₄ (c .before)) in
-    rw (aligned (at-page counted), page-is (at-page counted) ∙ counted .before .before .if2 .left, good-count (else₄ (c .before)), count-told counted, next-told (c .before), le-leb _ _ (c .if5 .taken))
+    let counted = at-count (else4 (c .before)) in
+    rw (aligned (at-page counted), page-is (at-page counted) ∙ counted .before .before .if2 .left, good-count (else4 (c .before)), count-told counted, next-told (c .before), le-leb _ _ (c .if5 .taken))
 
 sub-at-most : tie.Need-sub-at-most
 sub-at-most c = search needs
@@ -161,8 +158,8 @@ run-requires : tie.Need-run-requires
 unfolding page-of offset-of page-size entries-a-call
 run-requires c κs =
     let asked = c .before .before in
-    let counted = at-count (else₄ (asked .before .before)) in
-    let t = start₃ counted .pre in
+    let counted = at-count (else4 (asked .before .before)) in
+    let t = start-of counted .pre in
     record { tested = t; below = omega (arith, pages-tested _ _ t, page-inside (counted .before .before)); within = omega (arith, asked .at-most .ensures) }
 
 same-length-8 : tie.Need-same-length-8
@@ -178,8 +175,8 @@ returns-6 c =
     let ran = memory-back .before .before in
     let asked = ran .before .before .before in
     let read = asked .before .before in
-    let counted = at-count (else₄ read) in
-    rw (aligned (at-page counted), page-is (at-page counted) ∙ counted .before .before .if2 .left, good-count (else₄ read), count-told counted, next-told read, lt-leb _ _ (asked .before .if5 .left), ← asked .at-most .ensures)
+    let counted = at-count (else4 read) in
+    rw (aligned (at-page counted), page-is (at-page counted) ∙ counted .before .before .if2 .left, good-count (else4 read), count-told counted, next-told read, lt-leb _ _ (asked .before .if5 .left), ← asked .at-most .ensures)
     (ran .run .ensures)
 
 pub list-call-spec : {M : Type 1} → statement M

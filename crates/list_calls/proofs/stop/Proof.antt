@@ -10,33 +10,30 @@ use Rattle.rules.specs.declared.Code.the-variants.{Success, Incomplete}
 use Rattle.rules.specs.Words.{page-size}
 use Rattle.rules.specs.Machine.{page-of, offset-of}
 use Rattle.rules.specs.Lists.{run}
-use Rattle.rules.specs.Flat.{Buffers, buffers, parted}
+use Rattle.rules.specs.Flat.{buffers, parted}
 use Rattle.list_calls.proofs.Entries.{in-page, count-is, stored-is}
 use borrow.Author.Needs.{needs}
 use Rattle.list_calls.proofs.stop.Statement.{statement}
 use Rattle.list_calls.proofs.stop.Tie as tie
 
--- the way back to where the call began, and what is lent there
+-- the way back to where the call began, and to the count
 abbrev start : tie.After-number2-arg → tie.Start
 start c = let known = c .before in known .before .before .before
 
 abbrev counted : tie.After-slice-known2 → tie.After-number2
 counted c = let put = c .before .before in put .before .before
 
-abbrev given : tie.Start → Buffers
-given s = buffers (now (s .args .memory)) (now (s .args .table)) (now (s .args .sheet))
-
 -- the definition, once the index is stored
 ended : (c : tie.After-slice-known2) → let a : _ = start (counted c .before) .args in
-    run (a .call) (a .caller) (a .rcx) 0 (a .k) (parted (given (start (counted c .before))))
+    run (a .call) (a .caller) (a .rcx) 0 (a .k) (parted (buffers (now (a .memory)) (now (a .table)) (now (a .sheet))))
     ≡ record {
       answer = cond (ltb (a .k) (counted c .number2 .result)) Incomplete Success;
       after = parted (buffers (c .before .before .put-number2 .last .0) (now (a .table)) (now (a .sheet)));
     }
 unfolding run page-of offset-of page-size
 ended c =
-    let s = start (counted c .before) in
-    rw (count-is (given s) (s .args .rcx) _ (counted c .number2 .ensures), stored-is (s .args .rcx) (s .args .k) _ (now (s .args .table)) (now (s .args .sheet)) _ (c .before .before .put-number2 .ensures))
+    let a = start (counted c .before) .args in let b = buffers (now (a .memory)) (now (a .table)) (now (a .sheet)) in
+    rw (count-is b (a .rcx) _ (counted c .number2 .ensures), stored-is (a .rcx) (a .k) _ (b .table) (b .sheet) _ (c .before .before .put-number2 .ensures))
 
 number2-requires : tie.Need-number2-requires
 unfolding page-of offset-of page-size

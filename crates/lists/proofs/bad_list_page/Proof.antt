@@ -20,9 +20,6 @@ use Rattle.lists.proofs.bad_list_page.Tie as tie
 abbrev start : tie.After-is-usable → tie.Start
 start c = c .before .before
 
-abbrev passed : tie.After-owner-of → tie.Else1
-passed c = c .before .before
-
 abbrev lent : tie.Start → Lent
 lent s = table-alone (now (s .args .table))
 
@@ -34,13 +31,13 @@ usable-told c = sym (c .is-usable .ensures ∙ ap (usable (start c .args .vmpl) 
 good : (c : tie.Else1) → usable (start (c .before) .args .vmpl) (lent (start (c .before))) (page-of (start (c .before) .args .rcx)) ≡ true
 good c = usable-told (c .before) ∙ not-false _ (c .if1 .left)
 
-bad-by-owner : (c : tie.After-owner-of) → let s : tie.Start = start (passed c .before) in let o : ℕ = c .owner-of .result in
+bad-by-owner : (c : tie.After-owner-of) → let s : tie.Start = start (c .before .before .before) in let o : ℕ = c .owner-of .result in
     bad-list-page (s .args .vmpl) (s .args .rcx) (lent s) ≡ (not (eqb o 0) && not (eqb o 1) || eqb o 1 && eqb (offset-of (s .args .rcx)) 0)
 unfolding bad-list-page owned-by table-byte page-of page-size
 bad-by-owner c =
-    let s = start (passed c .before) in
+    let s = start (c .before .before .before) in
     let same = c .owner-of .ensures ∙ ap (λ (p : ℕ). owner (table-byte (lent s) p)) {y = page-of (s .args .rcx)} (omega arith) in
-    rw (good (passed c), ← same)
+    rw (good (c .before .before), ← same)
 
 is-usable-requires : tie.Need-is-usable-requires
 is-usable-requires c κs = search needs

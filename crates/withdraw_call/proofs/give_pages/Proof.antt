@@ -26,21 +26,18 @@ abbrev μ-loop : tie.MeasureT-loop
 abbrev start : tie.At-loop Inv-loop μ-loop → tie.Start Inv-loop μ-loop
 start c = c .before .before .before
 
-abbrev asked : tie.After-give-back-arg2 Inv-loop μ-loop → tie.Else1 Inv-loop μ-loop
-asked c = c .before .before
-
 abbrev gave : tie.After-slice-known4 Inv-loop μ-loop → tie.After-give-back Inv-loop μ-loop
 gave c = let at-table = c .before in at-table .before .before .before
 
 abbrev round : tie.After-give-back Inv-loop μ-loop → tie.At-loop Inv-loop μ-loop
-round c = asked (c .before) .before .before
+round c = let at-if1 = c .before .before .before in at-if1 .before .before
 
 -- there is room for one more, and no more than one is given
 room : (c : tie.Else1 Inv-loop μ-loop) → start (c .before .before) .args .at + 8 * c .before .before .loop .taken + 8 ≤ page-size
 room c = omega (arith, start (c .before .before) .pre .within, c .if1 .left)
 
 one-more : (c : tie.After-give-back Inv-loop μ-loop) → round c .loop .taken + c .give-back .result ≤ start (round c) .args .room
-one-more c = let l = round c .loop in omega (arith, asked (c .before) .if1 .left, c .give-back .ensures .many, one-place (l .p) (getD (l .table) (l .p) 0))
+one-more c = let l = round c .loop in omega (arith, c .before .before .before .if1 .left, c .give-back .ensures .many, one-place (l .p) (getD (l .table) (l .p) 0))
 
 loop-holds : tie.Need-loop-holds Inv-loop μ-loop
 unfolding places
@@ -60,18 +57,18 @@ returns c =
 
 mul-give-back : tie.Need-mul-give-back Inv-loop μ-loop
 unfolding page-size
-mul-give-back c = omega (arith, room (asked c))
+mul-give-back c = omega (arith, room (c .before .before))
 
 add-give-back : tie.Need-add-give-back Inv-loop μ-loop
 unfolding page-size
-add-give-back c = omega (arith, room (asked c))
+add-give-back c = omega (arith, room (c .before .before))
 
 give-back-requires : tie.Need-give-back-requires Inv-loop μ-loop
 give-back-requires c κs =
-    let inside = asked c .before in let l = inside .before .loop in let s = start (inside .before) in (
+    let inside = c .before .before .before in let l = inside .before .loop in let s = start (inside .before) in (
       record {
         below = rw (same-parts page-size (now (s .args .memory)) (l .memory) (l .inv .4)) (s .pre .below);
-        within = omega (arith, room (asked c));
+        within = omega (arith, room (c .before .before));
         most = rw (l .inv .3) (s .pre .most);
       },
       inside .loop-test .taken,
@@ -89,8 +86,8 @@ loop-less c = omega arith
 
 loop-again : tie.Need-loop-again Inv-loop μ-loop
 loop-again c =
-    let at-loop = round (gave c) in let l = at-loop .loop in let s = start at-loop in let r = gave c .give-back in
-    let more : l .p < length (now (s .args .table)) = omega (arith, l .inv .3, asked (gave c .before) .before .loop-test .taken) in (
+    let at-if1 = gave c .before .before .before in let inside = at-if1 .before in let at-loop = inside .before in let l = at-loop .loop in let s = start at-loop in let r = gave c .give-back in
+    let more : l .p < length (now (s .args .table)) = omega (arith, l .inv .3, inside .loop-test .taken) in (
       given-step _ _ _ (l .p) _ _ (l .memory) (l .table) _ _ (l .taken) (r .result) more (s .pre .below) (l .inv .0) (r .ensures),
       one-more (gave c),
       omega arith,

@@ -19,18 +19,11 @@ Inv-loop table first n found₀ i₀ found i = (i ≤ n) × (found ≡ count (va
 abbrev μ-loop : tie.MeasureT-loop
 μ-loop table first n found₀ i₀ found i = n - i
 
--- the way back
-abbrev start : tie.At-loop Inv-loop μ-loop → tie.Start Inv-loop μ-loop
-start c = c .before .before
-
-abbrev round : tie.After-valid-bit Inv-loop μ-loop → tie.At-loop Inv-loop μ-loop
-round c = c .before .before .before
-
 -- one page more is counted
-counted : (c : tie.After-valid-bit Inv-loop μ-loop) → round c .loop .found + c .valid-bit .result
-    ≡ count (valid-at (now (start (round c) .args .table))) (range (start (round c) .args .first) (round c .loop .i + 1))
+counted : (c : tie.After-valid-bit Inv-loop μ-loop) → let at-loop : _ = c .before .before .before in let a : _ = at-loop .before .before .args in
+    at-loop .loop .found + c .valid-bit .result ≡ count (valid-at (now (a .table))) (range (a .first) (at-loop .loop .i + 1))
 counted c =
-    let a = start (round c) .args in let l = round c .loop in
+    let at-loop = c .before .before .before in let a = at-loop .before .before .args in let l = at-loop .loop in
     rw (add-one (l .i)) (ap₂ _+_ (l .inv .1) (c .valid-bit .ensures) ∙ sym (count-more (valid-at (now (a .table))) (a .first) (l .i)))
 
 loop-holds : tie.Need-loop-holds Inv-loop μ-loop
@@ -48,8 +41,8 @@ valid-bit-requires c κs = search needs
 
 add-found : tie.Need-add-found Inv-loop μ-loop
 add-found c =
-    let a = start (round c) .args in let upto = range (a .first) (round c .loop .i + 1) in
-    omega (arith, counted c, count-le-length (valid-at (now (a .table))) upto, length-range (a .first) (round c .loop .i + 1))
+    let at-loop = c .before .before .before in let a = at-loop .before .before .args in let i = at-loop .loop .i in
+    omega (arith, counted c, count-le-length (valid-at (now (a .table))) (range (a .first) (i + 1)), length-range (a .first) (i + 1))
 
 add-i : tie.Need-add-i Inv-loop μ-loop
 add-i c = omega arith
@@ -63,7 +56,7 @@ loop-again c = (omega arith, counted c)
 returns : tie.Need-returns Inv-loop μ-loop
 returns c =
     let l = c .before .loop in
-    let all : l .i ≡ start (c .before) .args .n = omega arith in
+    let all : l .i ≡ c .before .before .before .args .n = omega arith in
     rw (← all) (l .inv .1)
 
 pub count-valid-spec : {M : Type 1} → statement M

@@ -16,15 +16,12 @@ use borrow.Author.Needs.{needs}
 use Rattle.entries.proofs.reader.read_deposit.Statement.{statement}
 use Rattle.entries.proofs.reader.read_deposit.Tie as tie
 
-abbrev start : tie.After-count-valid → tie.Start
-start c = c .before .before
-
-all-told : (c : tie.After-count-valid) → let a : _ = start c .args in
+all-told : (c : tie.After-count-valid) → let a : _ = c .before .before .args in
     every (usable (a .vmpl) (table-alone (now (a .table)))) (range (a .first) (a .n)) ≡ eqb (c .count-valid .result) (a .n)
 all-told c =
-    let a = start c .args in
+    let a = c .before .before .args in
     every-same (usable (a .vmpl) (table-alone (now (a .table)))) (valid-at (now (a .table))) (a .first) (a .n)
-    (λ p l h. usable-is (a .vmpl) (now (a .table)) p (omega (arith, start c .pre)))
+    (λ p l h. usable-is (a .vmpl) (now (a .table)) p (omega (arith, c .before .before .pre)))
     ∙ all-by-count (now (a .table)) (a .first) (a .n) _ (c .count-valid .ensures)
 
 count-valid-requires : tie.Need-count-valid-requires
