@@ -50,18 +50,9 @@ made c =
 abbrev at-handle : tie.After-finish-arg3 → tie.After-handle
 at-handle c = let at-sheet = c .before .before .before in let at-table = at-sheet .before .before in let at-memory = at-table .before .before in at-memory .before .before
 
-fits-requires : tie.Need-fits-requires
-fits-requires c κs = search needs
-
-left-requires : tie.Need-left-requires
-left-requires c κs = search needs
-
 returns : tie.Need-returns
 unfolding Call-promise well-sized memory-sized
 returns c = rw (c .left .ensures) (call-unsized _ _ _ (rw (sym (c .before .before .fits2 .ensures) ∙ not-true _ (c .before .if1 .taken))))
-
-left-requires-2 : tie.Need-left-requires-2
-left-requires-2 c κs = search needs
 
 returns-2 : tie.Need-returns-2
 unfolding Call-promise well-sized memory-sized sheet-sized record-size records
@@ -74,12 +65,6 @@ bad-sheet-requires : tie.Need-bad-sheet-requires
 unfolding record-size records
 bad-sheet-requires c κs = c .before .if2 .left
 
-left-requires-3 : tie.Need-left-requires-3
-left-requires-3 c κs = search needs
-
-same-length : tie.Need-same-length
-same-length c = search needs
-
 returns-3 : tie.Need-returns-3
 unfolding Call-promise bad-machine N parted
 returns-3 c = let at-bad-sheet = c .before .before in rw (c .left3 .ensures) (call-bad _ _ _ (sized (at-bad-sheet .before .before)) (sym (at-bad-sheet .bad-sheet .ensures) ∙ c .before .if3 .taken))
@@ -87,33 +72,9 @@ returns-3 c = let at-bad-sheet = c .before .before in rw (c .left3 .ensures) (ca
 pending-requires : tie.Need-pending-requires
 pending-requires c κs = tested c
 
-left-requires-4 : tie.Need-left-requires-4
-left-requires-4 c κs = search needs
-
-same-length-2 : tie.Need-same-length-2
-same-length-2 c = search needs
-
-same-length-3 : tie.Need-same-length-3
-same-length-3 c = search needs
-
-same-length-4 : tie.Need-same-length-4
-same-length-4 c = search needs
-
 returns-4 : tie.Need-returns-4
 unfolding Call-promise no-call
 returns-4 c = let at-pending = c .before .before in rw (c .left4 .ensures) (call-none _ _ _ (tested (at-pending .before)) (rw (← at-pending .pending .ensures, eq-eqb _ _ (c .before .if4 .taken))))
-
-left-requires-5 : tie.Need-left-requires-5
-left-requires-5 c κs = search needs
-
-same-length-5 : tie.Need-same-length-5
-same-length-5 c = search needs
-
-same-length-6 : tie.Need-same-length-6
-same-length-6 c = search needs
-
-same-length-7 : tie.Need-same-length-7
-same-length-7 c = search needs
 
 returns-5 : tie.Need-returns-5
 unfolding Call-promise no-call
@@ -130,15 +91,6 @@ finish-requires c κs =
     let t = tested (at-pending (at-handle c .before) .before) in
     record { sized = at-handle c .handle .kept .1 .1 .0 ∙ sheet-tested _ _ t; below = caller-below _ _ t }
 
-same-length-8 : tie.Need-same-length-8
-same-length-8 c = search needs
-
-same-length-9 : tie.Need-same-length-9
-same-length-9 c = search needs
-
-same-length-10 : tie.Need-same-length-10
-same-length-10 c = search needs
-
 returns-6 : tie.Need-returns-6
 unfolding Call-promise
 returns-6 c =
@@ -150,29 +102,29 @@ pub call-spec : {M : Type 1} → statement M
 call-spec =
     tie.close
     (tie.spec
-    fits-requires
-    left-requires
+    (λ c κs. search needs)
+    (λ c κs. search needs)
     returns
-    left-requires-2
+    (λ c κs. search needs)
     returns-2
     bad-sheet-requires
-    left-requires-3
-    same-length
+    (λ c κs. search needs)
+    (λ c. search needs)
     returns-3
     pending-requires
-    left-requires-4
-    same-length-2
-    same-length-3
-    same-length-4
+    (λ c κs. search needs)
+    (λ c. search needs)
+    (λ c. search needs)
+    (λ c. search needs)
     returns-4
-    left-requires-5
-    same-length-5
-    same-length-6
-    same-length-7
+    (λ c κs. search needs)
+    (λ c. search needs)
+    (λ c. search needs)
+    (λ c. search needs)
     returns-5
     handle-requires
     finish-requires
-    same-length-8
-    same-length-9
-    same-length-10
+    (λ c. search needs)
+    (λ c. search needs)
+    (λ c. search needs)
     returns-6)

@@ -18,29 +18,11 @@ byte-requires : tie.Need-byte-requires
 unfolding record-size records
 byte-requires c κs = at (c .before .before .before .pre) _ _ (lit≤ tt)
 
-set-flag-requires : tie.Need-set-flag-requires
-set-flag-requires c κs = search needs
-
-same-length : tie.Need-same-length
-same-length c = search needs
-
 returns : tie.Need-returns
 unfolding finish is-live record-at fields parted record-size with-lent
 returns c =
     let at-set-flag = c .before .before in let at-if1 = at-set-flag .before .before in let live = at-if1 .before .byte in
     rw (← live .ensures, ne-eqb (live .result) 1 (omega (arith, at-if1 .if1 .taken)), at-set-flag .set-flag .ensures)
-
-clear-pending-requires : tie.Need-clear-pending-requires
-clear-pending-requires c κs = search needs
-
-set-flag-requires-2 : tie.Need-set-flag-requires-2
-set-flag-requires-2 c κs = search needs
-
-number-of-requires : tie.Need-number-of-requires
-number-of-requires c κs = search needs
-
-same-length-2 : tie.Need-same-length-2
-same-length-2 c = search needs
 
 returns-2 : tie.Need-returns-2
 unfolding finish is-live record-at fields parted record-size with-lent with-rax with-rcx
@@ -56,11 +38,11 @@ finish-spec =
     tie.close
     (tie.spec
     byte-requires
-    set-flag-requires
-    same-length
+    (λ c κs. search needs)
+    (λ c. search needs)
     returns
-    clear-pending-requires
-    set-flag-requires-2
-    number-of-requires
-    same-length-2
+    (λ c κs. search needs)
+    (λ c κs. search needs)
+    (λ c κs. search needs)
+    (λ c. search needs)
     returns-2)

@@ -79,23 +79,11 @@ returns-2 c = odd-calling _ _ _ _ _ (c .before .if1 .left) (c .if2 .taken)
 byte-requires : tie.Need-byte-requires
 byte-requires c κs = at (caller-row (start (c .before) .pre)) _ _ (lit≤ tt)
 
-unfit-pages-requires : tie.Need-unfit-pages-requires
-unfit-pages-requires c κs = search needs
-
-same-length : tie.Need-same-length
-same-length c = search needs
-
-same-length-2 : tie.Need-same-length-2
-same-length-2 c = search needs
-
 returns-3 : tie.Need-returns-3
 unfolding page-size record-size
 returns-3 c =
     let at-if2 = else2 (c .before) in
     bad-pages _ _ _ _ _ (vmpl-at (c .before) .byte .ensures) (at-if2 .before .if1 .left) (at-if2 .if2 .left) (sym (pages-told (c .before)) ∙ c .if3 .taken)
-
-cast-apic : tie.Need-cast-apic
-cast-apic c = search needs
 
 unfit-vcpu-requires : tie.Need-unfit-vcpu-requires
 unfolding page-of page-size
@@ -103,12 +91,6 @@ unfit-vcpu-requires c κs =
     let at-if3 = c .before in let tested = start (else2 (at-if3 .before)) .pre in
     let fit = fit-pages _ _ _ _ (sym (pages-told (at-if3 .before)) ∙ at-if3 .if3 .left) in
     record { page = rw (pages-tested _ _ tested) (fit .0); whole = sheet-tested _ _ tested }
-
-same-length-3 : tie.Need-same-length-3
-same-length-3 c = search needs
-
-same-length-4 : tie.Need-same-length-4
-same-length-4 c = search needs
 
 returns-4 : tie.Need-returns-4
 unfolding page-of page-size record-size
@@ -120,24 +102,9 @@ returns-4 c =
 free-record-requires : tie.Need-free-record-requires
 free-record-requires c κs = sheet-tested _ _ (start4 (c .before) .pre)
 
-same-length-5 : tie.Need-same-length-5
-same-length-5 c = search needs
-
-same-length-6 : tie.Need-same-length-6
-same-length-6 c = search needs
-
 returns-5 : tie.Need-returns-5
 unfolding records record-size
 returns-5 c = let at-if4 = else4 (c .before) in no-record _ _ _ _ _ (vmpl4 at-if4 .byte .ensures) (passed at-if4) (c .before .free-record .ensures) (rw (rows-tested _ _ (start4 at-if4 .pre)) (c .if5 .taken))
-
-lacks-page-requires : tie.Need-lacks-page-requires
-lacks-page-requires c κs = search needs
-
-same-length-7 : tie.Need-same-length-7
-same-length-7 c = search needs
-
-same-length-8 : tie.Need-same-length-8
-same-length-8 c = search needs
 
 returns-6 : tie.Need-returns-6
 unfolding records record-size
@@ -160,12 +127,6 @@ make-requires c κs =
       pool-fits = fit-pool _ _ (sym (at-if6 .before .lacks-page .ensures) ∙ at-if6 .if6 .left);
     }
 
-same-length-9 : tie.Need-same-length-9
-same-length-9 c = search needs
-
-same-length-10 : tie.Need-same-length-10
-same-length-10 c = search needs
-
 returns-7 : tie.Need-returns-7
 unfolding page-of page-size records record-size
 returns-7 c =
@@ -180,24 +141,24 @@ create-spec =
     returns
     returns-2
     byte-requires
-    unfit-pages-requires
-    same-length
-    same-length-2
+    (λ c κs. search needs)
+    (λ c. search needs)
+    (λ c. search needs)
     returns-3
-    cast-apic
+    (λ c. search needs)
     unfit-vcpu-requires
-    same-length-3
-    same-length-4
+    (λ c. search needs)
+    (λ c. search needs)
     returns-4
     free-record-requires
-    same-length-5
-    same-length-6
+    (λ c. search needs)
+    (λ c. search needs)
     returns-5
-    lacks-page-requires
-    same-length-7
-    same-length-8
+    (λ c κs. search needs)
+    (λ c. search needs)
+    (λ c. search needs)
     returns-6
     make-requires
-    same-length-9
-    same-length-10
+    (λ c. search needs)
+    (λ c. search needs)
     returns-7)

@@ -4,9 +4,6 @@ use borrow.Author.Needs.{needs}
 use Rattle.create_call.proofs.holding_of.Statement.{statement}
 use Rattle.create_call.proofs.holding_of.Tie as tie
 
-needs-page-requires : tie.Need-needs-page-requires
-needs-page-requires c κs = search needs
-
 returns : tie.Need-returns
 returns c = rw (← c .before .needs-page .ensures, c .if1 .taken)
 
@@ -14,4 +11,4 @@ returns-2 : tie.Need-returns-2
 returns-2 c = rw (← c .before .needs-page .ensures, c .if1 .left)
 
 pub holding-of-spec : {M : Type 1} → statement M
-holding-of-spec = tie.close (tie.spec needs-page-requires returns returns-2)
+holding-of-spec = tie.close (tie.spec (λ c κs. search needs) returns returns-2)

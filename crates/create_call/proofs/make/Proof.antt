@@ -28,15 +28,6 @@ pooled c = c .before .before
 abbrev start : tie.After-holding-of → tie.Start
 start c = let at-known = pooled c .before .before in at-known .before .before .before
 
-pool-page-requires : tie.Need-pool-page-requires
-pool-page-requires c κs = search needs
-
-vmpl-of-requires : tie.Need-vmpl-of-requires
-vmpl-of-requires c κs = search needs
-
-holding-of-requires : tie.Need-holding-of-requires
-holding-of-requires c κs = search needs
-
 cast-t14 : tie.Need-cast-t14
 unfolding most-pages
 cast-t14 c = omega (arith, start c .pre .vmsa-fits, start c .pre .most)
@@ -53,15 +44,6 @@ mark-pages-requires c κs =
     let f = start (c .before) .pre in let e = pooled (c .before) .pool-page .ensures in
     record { vmsa-below = f .vmsa-fits; calling-below = f .calling-fits; pool-below = λ t. rw (e, t) (f .pool-fits t); pool-is = e }
 
-put-record-requires : tie.Need-put-record-requires
-put-record-requires c κs = search needs
-
-same-length : tie.Need-same-length
-same-length c = search needs
-
-same-length-2 : tie.Need-same-length-2
-same-length-2 c = search needs
-
 returns : tie.Need-returns
 unfolding parted new-record page-at free-page
 returns c =
@@ -74,14 +56,14 @@ pub make-spec : {M : Type 1} → statement M
 make-spec =
     tie.close
     (tie.spec
-    pool-page-requires
-    vmpl-of-requires
-    holding-of-requires
+    (λ c κs. search needs)
+    (λ c κs. search needs)
+    (λ c κs. search needs)
     cast-t14
     cast-t15
     cast-t16
     mark-pages-requires
-    put-record-requires
-    same-length
-    same-length-2
+    (λ c κs. search needs)
+    (λ c. search needs)
+    (λ c. search needs)
     returns)

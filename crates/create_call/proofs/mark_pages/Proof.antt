@@ -16,27 +16,6 @@ start c = c .before .before .before
 abbrev owned : tie.After-owned2 → tie.After-owned
 owned c = c .before .before
 
-slice-read-b : tie.Need-slice-read-b
-slice-read-b c = search needs
-
-revoked-requires : tie.Need-revoked-requires
-revoked-requires c κs = search needs
-
-owned-requires : tie.Need-owned-requires
-owned-requires c κs = search needs
-
-slice-write-table : tie.Need-slice-write-table
-slice-write-table c = search needs
-
-slice-read-owned : tie.Need-slice-read-owned
-slice-read-owned c = search needs
-
-owned-requires-2 : tie.Need-owned-requires-2
-owned-requires-2 c κs = search needs
-
-slice-write-table-2 : tie.Need-slice-write-table-2
-slice-write-table-2 c = search needs
-
 mark-pool-requires : tie.Need-mark-pool-requires
 mark-pool-requires c κs = λ n. simp length-set (start (owned (c .before) .before) .pre .pool-below n)
 
@@ -54,13 +33,13 @@ pub mark-pages-spec : {M : Type 1} → statement M
 mark-pages-spec =
     tie.close
     (tie.spec
-    slice-read-b
-    revoked-requires
-    owned-requires
-    slice-write-table
-    slice-read-owned
-    owned-requires-2
-    slice-write-table-2
+    (λ c. search needs)
+    (λ c κs. search needs)
+    (λ c κs. search needs)
+    (λ c. search needs)
+    (λ c. search needs)
+    (λ c κs. search needs)
+    (λ c. search needs)
     mark-pool-requires
     same-length
     returns)

@@ -9,9 +9,6 @@ use borrow.Author.Needs.{needs}
 use Rattle.create_call.proofs.unfit_page.Statement.{statement}
 use Rattle.create_call.proofs.unfit_page.Tie as tie
 
-is-usable-requires : tie.Need-is-usable-requires
-is-usable-requires c κs = search needs
-
 returns : tie.Need-returns
 unfolding unfit-page
 returns c = rw (sym (c .before .is-usable .ensures) ∙ not-true _ (c .if1 .taken))
@@ -19,9 +16,6 @@ returns c = rw (sym (c .before .is-usable .ensures) ∙ not-true _ (c .if1 .take
 shared-slice-read-owner-of : tie.Need-shared-slice-read-owner-of
 unfolding N
 shared-slice-read-owner-of c = let at-if1 = c .before in usable→ _ _ _ (sym (at-if1 .before .is-usable .ensures) ∙ not-false _ (at-if1 .if1 .left)) .0
-
-owner-of-requires : tie.Need-owner-of-requires
-owner-of-requires c κs = search needs
 
 returns-2 : tie.Need-returns-2
 unfolding unfit-page owned-by table-byte
@@ -31,4 +25,4 @@ returns-2 c =
 
 pub unfit-page-spec : {M : Type 1} → statement M
 unfit-page-spec =
-    tie.close (tie.spec is-usable-requires returns shared-slice-read-owner-of owner-of-requires returns-2)
+    tie.close (tie.spec (λ c κs. search needs) returns shared-slice-read-owner-of (λ c κs. search needs) returns-2)

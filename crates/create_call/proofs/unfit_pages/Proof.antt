@@ -6,15 +6,9 @@ use borrow.Author.Needs.{needs}
 use Rattle.create_call.proofs.unfit_pages.Statement.{statement}
 use Rattle.create_call.proofs.unfit_pages.Tie as tie
 
-unfit-page-requires : tie.Need-unfit-page-requires
-unfit-page-requires c κs = search needs
-
 returns : tie.Need-returns
 unfolding unfit-pages
 returns c = rw (sym (c .before .unfit-page .ensures) ∙ c .if1 .taken)
-
-unfit-page-requires-2 : tie.Need-unfit-page-requires-2
-unfit-page-requires-2 c κs = search needs
 
 returns-2 : tie.Need-returns-2
 unfolding unfit-pages
@@ -26,4 +20,4 @@ returns-3 c = rw (sym (c .before .before .before .unfit-page .ensures) ∙ c .be
 
 pub unfit-pages-spec : {M : Type 1} → statement M
 unfit-pages-spec =
-    tie.close (tie.spec unfit-page-requires returns unfit-page-requires-2 returns-2 returns-3)
+    tie.close (tie.spec (λ c κs. search needs) returns (λ c κs. search needs) returns-2 returns-3)

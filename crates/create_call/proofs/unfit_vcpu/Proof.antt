@@ -36,15 +36,9 @@ not-below c =
     let not-less = le-ltb (at-vmpl .vmpl-of .result) (start at-if1 .args .caller-vmpl) (omega (arith, c .if2 .left)) in
     rw (sym (at-if1 .before .is-unfit .ensures) ∙ at-if1 .if1 .left, ← at-vmpl .vmpl-of .ensures, not-less)
 
-is-unfit-requires : tie.Need-is-unfit-requires
-is-unfit-requires c κs = search needs
-
 returns : tie.Need-returns
 unfolding unfit-vcpu page-at startup vcpu record-at parted fields page-size record-size
 returns c = rw (sym (c .before .is-unfit .ensures) ∙ c .if1 .taken)
-
-vmpl-of-requires : tie.Need-vmpl-of-requires
-vmpl-of-requires c κs = search needs
 
 returns-2 : tie.Need-returns-2
 unfolding unfit-vcpu page-at startup vcpu record-at parted fields page-size record-size
@@ -52,9 +46,6 @@ returns-2 c =
     let at-vmpl = c .before in let at-if1 = at-vmpl .before in
     let less = lt-ltb (at-vmpl .vmpl-of .result) (start at-if1 .args .caller-vmpl) (omega (arith, c .if2 .taken)) in
     rw (sym (at-if1 .before .is-unfit .ensures) ∙ at-if1 .if1 .left, ← at-vmpl .vmpl-of .ensures, less)
-
-features-of-requires : tie.Need-features-of-requires
-features-of-requires c κs = search needs
 
 number8-requires : tie.Need-number8-requires
 unfolding records
@@ -81,11 +72,11 @@ pub unfit-vcpu-spec : {M : Type 1} → statement M
 unfit-vcpu-spec =
     tie.close
     (tie.spec
-    is-unfit-requires
+    (λ c κs. search needs)
     returns
-    vmpl-of-requires
+    (λ c κs. search needs)
     returns-2
-    features-of-requires
+    (λ c κs. search needs)
     number8-requires
     returns-3
     lowest-requires

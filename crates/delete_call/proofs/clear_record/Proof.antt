@@ -6,15 +6,9 @@ use borrow.Author.Needs.{needs}
 use Rattle.delete_call.proofs.clear_record.Statement.{statement}
 use Rattle.delete_call.proofs.clear_record.Tie as tie
 
-put-record-requires : tie.Need-put-record-requires
-put-record-requires c κs = search needs
-
-same-length : tie.Need-same-length
-same-length c = search needs
-
 returns : tie.Need-returns
 unfolding laid-out little zeros record-size
 returns c = c .before .before .put-record .ensures
 
 pub clear-record-spec : {M : Type 1} → statement M
-clear-record-spec = tie.close (tie.spec put-record-requires same-length returns)
+clear-record-spec = tie.close (tie.spec (λ c κs. search needs) (λ c. search needs) returns)

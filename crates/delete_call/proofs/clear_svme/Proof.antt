@@ -7,18 +7,9 @@ use borrow.Author.Needs.{needs}
 use Rattle.delete_call.proofs.clear_svme.Statement.{statement}
 use Rattle.delete_call.proofs.clear_svme.Tie as tie
 
-efer-of-requires : tie.Need-efer-of-requires
-efer-of-requires c κs = search needs
-
-without-svme-requires : tie.Need-without-svme-requires
-without-svme-requires c κs = search needs
-
 put-number8-requires : tie.Need-put-number8-requires
 unfolding page-size
 put-number8-requires c κs = let at-efer = c .before .before in record { some = lit< tt; below = at-efer .before .before .before .pre; within = lit≤ tt }
-
-same-length : tie.Need-same-length
-same-length c = search needs
 
 returns : tie.Need-returns
 unfolding page-size
@@ -27,4 +18,4 @@ returns c = let at-without = c .before .before .before in c .before .before .put
 pub clear-svme-spec : {M : Type 1} → statement M
 clear-svme-spec =
     tie.close
-    (tie.spec efer-of-requires without-svme-requires put-number8-requires same-length returns)
+    (tie.spec (λ c κs. search needs) (λ c κs. search needs) put-number8-requires (λ c. search needs) returns)

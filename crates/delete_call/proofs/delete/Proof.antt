@@ -72,15 +72,9 @@ lowest-requires : tie.Need-lowest-requires
 unfolding record-size
 lowest-requires c κs = let at-known = c .before .before in (sheet-tested _ _ (at-known .before .before .before .pre), lit≤ tt)
 
-same-length : tie.Need-same-length
-same-length c = search needs
-
 returns-2 : tie.Need-returns-2
 unfolding delete refuse named-by page-of multiple page-size vcpu record-at parted records record-size
 returns-2 c = let at-found = c .before in rw (eq-eqb _ 0 (at-found .before .before .if1 .left), ← found at-found, rows-tested _ _ (start at-found .pre), le-leb records _ (c .if2 .taken))
-
-same-length-2 : tie.Need-same-length-2
-same-length-2 c = search needs
 
 returns-3 : tie.Need-returns-3
 unfolding delete refuse named-by page-of multiple page-size vcpu record-at parted records record-size
@@ -97,9 +91,6 @@ byte-requires-2 c κs =
     let at-byte = c .before in let at-if3 = at-byte .before .before in
     at (record { sized = sheet-tested _ _ (start (named at-if3) .pre); below = at-if3 .before .if2 .left }) _ _ (lit≤ tt)
 
-same-length-3 : tie.Need-same-length-3
-same-length-3 c = search needs
-
 returns-4 : tie.Need-returns-4
 unfolding delete refuse named-by page-of multiple page-size vcpu record-at parted records record-size fields
 returns-4 c =
@@ -109,9 +100,6 @@ returns-4 c =
 in-use-requires : tie.Need-in-use-requires
 unfolding records
 in-use-requires c κs = let at-if3 = else3 (c .before .before) in record { sized = sheet-tested _ _ (start (named at-if3) .pre); below = at-if3 .before .if2 .left }
-
-same-length-4 : tie.Need-same-length-4
-same-length-4 c = search needs
 
 returns-5 : tie.Need-returns-5
 unfolding delete refuse named-by page-of multiple page-size vcpu record-at parted records record-size fields
@@ -124,15 +112,6 @@ unfolding named-by page-of page-size parted records
 deleted-requires c κs =
     let at-if5 = c .before .before .before in let at-if4 = at-if5 .before .before .before in let at-if3 = else3 (at-if4 .before) in
     cleared _ _ _ _ (start (named at-if3) .pre) (at-if3 .before .if2 .left) (found (named at-if3))
-
-same-length-5 : tie.Need-same-length-5
-same-length-5 c = search needs
-
-same-length-6 : tie.Need-same-length-6
-same-length-6 c = search needs
-
-same-length-7 : tie.Need-same-length-7
-same-length-7 c = search needs
 
 returns-6 : tie.Need-returns-6
 unfolding delete refuse named-by page-of multiple page-size vcpu record-at parted records record-size fields
@@ -149,19 +128,19 @@ delete-spec =
     (tie.spec
     returns
     lowest-requires
-    same-length
+    (λ c. search needs)
     returns-2
-    same-length-2
+    (λ c. search needs)
     returns-3
     byte-requires
     byte-requires-2
-    same-length-3
+    (λ c. search needs)
     returns-4
     in-use-requires
-    same-length-4
+    (λ c. search needs)
     returns-5
     deleted-requires
-    same-length-5
-    same-length-6
-    same-length-7
+    (λ c. search needs)
+    (λ c. search needs)
+    (λ c. search needs)
     returns-6)

@@ -34,14 +34,8 @@ below c = let v = c .before .before in let names = start (v .before) .pre .names
 number4-requires : tie.Need-number4-requires
 number4-requires c κs = at (start c .pre .at) _ _ (lit≤ tt)
 
-cast-vmsa : tie.Need-cast-vmsa
-cast-vmsa c = search needs
-
 number4-requires-2 : tie.Need-number4-requires-2
 number4-requires-2 c κs = at (start (c .before .before) .pre .at) _ _ (lit≤ tt)
-
-cast-calling : tie.Need-cast-calling
-cast-calling c = search needs
 
 clear-svme-requires : tie.Need-clear-svme-requires
 clear-svme-requires c κs = let at-number4 = c .before .before .before in rw (start (at-number4 .before) .pre .pages) (below (c .before) .0)
@@ -49,20 +43,11 @@ clear-svme-requires c κs = let at-number4 = c .before .before .before in rw (st
 slice-read-owned : tie.Need-slice-read-owned
 slice-read-owned c = below (read c) .0
 
-owned-requires : tie.Need-owned-requires
-owned-requires c κs = search needs
-
-granted-requires : tie.Need-granted-requires
-granted-requires c κs = search needs
-
 slice-write-table : tie.Need-slice-write-table
 slice-write-table c = below (read (c .before .before)) .0
 
 slice-read-owned-2 : tie.Need-slice-read-owned-2
 slice-read-owned-2 c = rw length-set (below (read (reading c)) .1)
-
-owned-requires-2 : tie.Need-owned-requires-2
-owned-requires-2 c κs = search needs
 
 slice-write-table-2 : tie.Need-slice-write-table-2
 slice-write-table-2 c = rw length-set (below (read (reading (c .before))) .1)
@@ -72,17 +57,8 @@ free-pool-requires c κs =
     let at-owned2 = c .before .before in let at-number42 = read (reading (at-owned2 .before)) in let told = start (at-number42 .before .before .before) .pre in
     record { at = told .at; pool = λ h. rw (length-set, length-set) (told .names .pool h) }
 
-clear-record-requires : tie.Need-clear-record-requires
-clear-record-requires c κs = search needs
-
-same-length : tie.Need-same-length
-same-length c = search needs
-
 same-length-2 : tie.Need-same-length-2
 same-length-2 c = let at-clear-record = c .before .before in let at-table = at-clear-record .before .before .before in at-table .before .free-pool .kept .0 ∙ rw (length-set, length-set)
-
-same-length-3 : tie.Need-same-length-3
-same-length-3 c = search needs
 
 returns : tie.Need-returns
 unfolding vcpu record-at fields revise parted record-size
@@ -100,20 +76,20 @@ deleted-spec =
     tie.close
     (tie.spec
     number4-requires
-    cast-vmsa
+    (λ c. search needs)
     number4-requires-2
-    cast-calling
+    (λ c. search needs)
     clear-svme-requires
     slice-read-owned
-    owned-requires
-    granted-requires
+    (λ c κs. search needs)
+    (λ c κs. search needs)
     slice-write-table
     slice-read-owned-2
-    owned-requires-2
+    (λ c κs. search needs)
     slice-write-table-2
     free-pool-requires
-    clear-record-requires
-    same-length
+    (λ c κs. search needs)
+    (λ c. search needs)
     same-length-2
-    same-length-3
+    (λ c. search needs)
     returns)

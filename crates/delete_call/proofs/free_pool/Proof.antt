@@ -26,20 +26,11 @@ byte-requires c κs = at (c .before .before .pre .at) _ _ (lit≤ tt)
 number4-requires : tie.Need-number4-requires
 number4-requires c κs = let at-byte = c .before in at (at-byte .before .before .before .pre .at) _ _ (lit≤ tt)
 
-cast-page : tie.Need-cast-page
-cast-page c = search needs
-
 slice-read-owned : tie.Need-slice-read-owned
 slice-read-owned c = inside (c .before)
 
-owned-requires : tie.Need-owned-requires
-owned-requires c κs = search needs
-
 slice-write-table : tie.Need-slice-write-table
 slice-write-table c = inside (c .before .before)
-
-same-length : tie.Need-same-length
-same-length c = search needs
 
 returns : tie.Need-returns
 unfolding holds fields record-size
@@ -57,10 +48,10 @@ free-pool-spec =
     (tie.spec
     byte-requires
     number4-requires
-    cast-page
+    (λ c. search needs)
     slice-read-owned
-    owned-requires
+    (λ c κs. search needs)
     slice-write-table
-    same-length
+    (λ c. search needs)
     returns
     returns-2)

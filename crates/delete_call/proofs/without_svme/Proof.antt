@@ -10,12 +10,9 @@ returns : tie.Need-returns
 unfolding without-bit bit
 returns c = rw (ne-eqb _ 1 (c .if1 .taken))
 
-sub-result : tie.Need-sub-result
-sub-result c = search needs
-
 returns-2 : tie.Need-returns-2
 unfolding without-bit bit
 returns-2 c = rw (eq-eqb _ 1 (c .if1 .left))
 
 pub without-svme-spec : {M : Type 1} → statement M
-without-svme-spec = tie.close (tie.spec returns sub-result returns-2)
+without-svme-spec = tie.close (tie.spec returns (λ c. search needs) returns-2)

@@ -7,9 +7,6 @@ use borrow.Author.Needs.{needs}
 use Rattle.door.proofs.monitor_call.Statement.{statement}
 use Rattle.door.proofs.monitor_call.Tie as tie
 
-outcome-requires : tie.Need-outcome-requires
-outcome-requires c κs = search needs
-
 returns : tie.Need-returns
 unfolding Call-promise Monitor-call-promise registers-size
 returns c = told _ (door-unsized _ _ _ (c .before .if1 .taken)) (c .outcome .ensures)
@@ -18,27 +15,9 @@ read-registers-requires : tie.Need-read-registers-requires
 unfolding registers-size
 read-registers-requires c κs = search needs
 
-call-requires : tie.Need-call-requires
-call-requires c κs = search needs
-
 write-registers-requires : tie.Need-write-registers-requires
 unfolding registers-size
 write-registers-requires c κs = search needs
-
-outcome-requires-2 : tie.Need-outcome-requires-2
-outcome-requires-2 c κs = search needs
-
-same-length : tie.Need-same-length
-same-length c = search needs
-
-same-length-2 : tie.Need-same-length-2
-same-length-2 c = search needs
-
-same-length-3 : tie.Need-same-length-3
-same-length-3 c = search needs
-
-same-length-4 : tie.Need-same-length-4
-same-length-4 c = search needs
 
 returns-2 : tie.Need-returns-2
 unfolding Call-promise Monitor-call-promise registers-size
@@ -52,14 +31,14 @@ pub monitor-call-spec : {M : Type 1} → statement M
 monitor-call-spec =
     tie.close
     (tie.spec
-    outcome-requires
+    (λ c κs. search needs)
     returns
     read-registers-requires
-    call-requires
+    (λ c κs. search needs)
     write-registers-requires
-    outcome-requires-2
-    same-length
-    same-length-2
-    same-length-3
-    same-length-4
+    (λ c κs. search needs)
+    (λ c. search needs)
+    (λ c. search needs)
+    (λ c. search needs)
+    (λ c. search needs)
     returns-2)

@@ -6,21 +6,6 @@ use borrow.Author.Needs.{needs}
 use Rattle.door.proofs.monitor_launch.Statement.{statement}
 use Rattle.door.proofs.monitor_launch.Tie as tie
 
-launch-requires : tie.Need-launch-requires
-launch-requires c κs = search needs
-
-launched-requires : tie.Need-launched-requires
-launched-requires c κs = search needs
-
-same-length : tie.Need-same-length
-same-length c = search needs
-
-same-length-2 : tie.Need-same-length-2
-same-length-2 c = search needs
-
-same-length-3 : tie.Need-same-length-3
-same-length-3 c = search needs
-
 returns : tie.Need-returns
 unfolding Launch-promise Monitor-launch-promise
 returns c =
@@ -30,4 +15,4 @@ returns c =
 pub monitor-launch-spec : {M : Type 1} → statement M
 monitor-launch-spec =
     tie.close
-    (tie.spec launch-requires launched-requires same-length same-length-2 same-length-3 returns)
+    (tie.spec (λ c κs. search needs) (λ c κs. search needs) (λ c. search needs) (λ c. search needs) (λ c. search needs) returns)

@@ -6,18 +6,9 @@ use borrow.Author.Needs.{needs}
 use Rattle.door.proofs.monitor_mark.Statement.{statement}
 use Rattle.door.proofs.monitor_mark.Tie as tie
 
-mark-requires : tie.Need-mark-requires
-mark-requires c κs = search needs
-
-verdict-requires : tie.Need-verdict-requires
-verdict-requires c κs = search needs
-
-same-length : tie.Need-same-length
-same-length c = search needs
-
 returns : tie.Need-returns
 unfolding Mark-promise Monitor-mark-promise
 returns c = let at-mark = c .before .before .before in told _ (at-mark .mark .ensures) (c .verdict .ensures)
 
 pub monitor-mark-spec : {M : Type 1} → statement M
-monitor-mark-spec = tie.close (tie.spec mark-requires verdict-requires same-length returns)
+monitor-mark-spec = tie.close (tie.spec (λ c κs. search needs) (λ c κs. search needs) (λ c. search needs) returns)

@@ -6,18 +6,9 @@ use borrow.Author.Needs.{needs}
 use Rattle.door.proofs.monitor_store.Statement.{statement}
 use Rattle.door.proofs.monitor_store.Tie as tie
 
-store-requires : tie.Need-store-requires
-store-requires c κs = search needs
-
-verdict-requires : tie.Need-verdict-requires
-verdict-requires c κs = search needs
-
-same-length : tie.Need-same-length
-same-length c = search needs
-
 returns : tie.Need-returns
 unfolding Store-promise Monitor-store-promise
 returns c = let at-store = c .before .before .before in told _ (at-store .store .ensures) (c .verdict .ensures)
 
 pub monitor-store-spec : {M : Type 1} → statement M
-monitor-store-spec = tie.close (tie.spec store-requires verdict-requires same-length returns)
+monitor-store-spec = tie.close (tie.spec (λ c κs. search needs) (λ c κs. search needs) (λ c. search needs) returns)

@@ -5,12 +5,6 @@ use borrow.Author.Needs.{needs}
 use Rattle.door.proofs.verdict.Statement.{statement}
 use Rattle.door.proofs.verdict.Tie as tie
 
-enum-told : tie.Need-enum-told
-enum-told c = search needs
-
-enum-told-2 : tie.Need-enum-told-2
-enum-told-2 c = search needs
-
 returns : tie.Need-returns
 unfolding verdict-number
 returns c = search needs
@@ -20,4 +14,4 @@ unfolding verdict-number
 returns-2 c = search needs
 
 pub verdict-spec : {M : Type 1} → statement M
-verdict-spec = tie.close (tie.spec enum-told enum-told-2 returns returns-2)
+verdict-spec = tie.close (tie.spec (λ c. search needs) (λ c. search needs) returns returns-2)

@@ -13,21 +13,9 @@ returns : tie.Need-returns
 unfolding cleared
 returns c = rw (c .enum-told .given .1)
 
-enum-told-2 : tie.Need-enum-told-2
-enum-told-2 c = search needs
-
-fill-page-requires : tie.Need-fill-page-requires
-fill-page-requires c κs = search needs
-
-same-length : tie.Need-same-length
-same-length c = search needs
-
 returns-2 : tie.Need-returns-2
 unfolding cleared fill with-memory
 returns-2 c = let filled = c .before .before in rw (filled .before .before .enum-told2 .given .1) (filled .fill-page .ensures)
-
-enum-told-3 : tie.Need-enum-told-3
-enum-told-3 c = search needs
 
 returns-3 : tie.Need-returns-3
 unfolding cleared
@@ -39,9 +27,9 @@ clear-spec =
     (tie.spec
     enum-told
     returns
-    enum-told-2
-    fill-page-requires
-    same-length
+    (λ c. search needs)
+    (λ c κs. search needs)
+    (λ c. search needs)
     returns-2
-    enum-told-3
+    (λ c. search needs)
     returns-3)

@@ -5,29 +5,8 @@ use borrow.Author.Needs.{needs}
 use Rattle.effects.proofs.wished_byte.Statement.{statement}
 use Rattle.effects.proofs.wished_byte.Tie as tie
 
-revoked-requires : tie.Need-revoked-requires
-revoked-requires c κs = search needs
-
 enum-told : tie.Need-enum-told
 enum-told c = search needs
-
-made-invalid-requires : tie.Need-made-invalid-requires
-made-invalid-requires c κs = search needs
-
-enum-told-2 : tie.Need-enum-told-2
-enum-told-2 c = search needs
-
-made-valid-requires : tie.Need-made-valid-requires
-made-valid-requires c κs = search needs
-
-granted-requires : tie.Need-granted-requires
-granted-requires c κs = search needs
-
-enum-told-3 : tie.Need-enum-told-3
-enum-told-3 c = search needs
-
-owned-requires : tie.Need-owned-requires
-owned-requires c κs = search needs
 
 returns : tie.Need-returns
 unfolding wished
@@ -45,14 +24,14 @@ pub wished-byte-spec : {M : Type 1} → statement M
 wished-byte-spec =
     tie.close
     (tie.spec
-    revoked-requires
+    (λ c κs. search needs)
     enum-told
-    made-invalid-requires
-    enum-told-2
-    made-valid-requires
-    granted-requires
-    enum-told-3
-    owned-requires
+    (λ c κs. search needs)
+    (λ c. search needs)
+    (λ c κs. search needs)
+    (λ c κs. search needs)
+    (λ c. search needs)
+    (λ c κs. search needs)
     returns
     returns-2
     returns-3)

@@ -77,12 +77,6 @@ byte-requires : tie.Need-byte-requires
 unfolding record-size
 byte-requires c κs = let known = c .before in vmpl-place _ _ (known .before .before .before .pre)
 
-bad-list-page-requires : tie.Need-bad-list-page-requires
-bad-list-page-requires c κs = search needs
-
-same-length : tie.Need-same-length
-same-length c = search needs
-
 returns-2 : tie.Need-returns-2
 unfolding list-call refuse
 returns-2 c = rw (aligned (c .before), page-is (c .before), c .if2 .taken)
@@ -91,33 +85,9 @@ number2-requires : tie.Need-number2-requires
 unfolding page-of page-size
 number2-requires c κs = record { some = lit< tt; below = page-inside (c .before); within = omega arith }
 
-cast-count : tie.Need-cast-count
-cast-count c = search needs
-
-same-length-2 : tie.Need-same-length-2
-same-length-2 c = search needs
-
-same-length-3 : tie.Need-same-length-3
-same-length-3 c = search needs
-
 returns-3 : tie.Need-returns-3
 unfolding list-call refuse bad-count
 returns-3 c = rw (aligned (at-page (c .before)), page-is (at-page (c .before)) ∙ c .before .before .before .if2 .left, count-told (c .before), eq-eqb _ 0 (c .if3 .taken))
-
-add-if4 : tie.Need-add-if4
-add-if4 c = search needs
-
-mul-if4 : tie.Need-mul-if4
-mul-if4 c = search needs
-
-add-if4-2 : tie.Need-add-if4-2
-add-if4-2 c = search needs
-
-same-length-4 : tie.Need-same-length-4
-same-length-4 c = search needs
-
-same-length-5 : tie.Need-same-length-5
-same-length-5 c = search needs
 
 returns-4 : tie.Need-returns-4
 unfolding list-call refuse bad-count offset-of page-size
@@ -126,33 +96,15 @@ returns-4 c =
     let end = offset-of (start-of counted .args .rcx) + 8 + 8 * counted .number2 .result in
     rw (aligned (at-page counted), page-is (at-page counted) ∙ counted .before .before .if2 .left, count-told counted, ne-eqb _ 0 (c .before .if3 .left), lt-ltb page-size end (omega arith))
 
-add-number2 : tie.Need-add-number2
-add-number2 c = search needs
-
 number2-requires-2 : tie.Need-number2-requires-2
 unfolding page-of page-size
 number2-requires-2 c κs = record { some = lit< tt; below = page-inside (at-count (c .before) .before .before); within = omega arith }
-
-cast-next : tie.Need-cast-next
-cast-next c = search needs
-
-same-length-6 : tie.Need-same-length-6
-same-length-6 c = search needs
-
-same-length-7 : tie.Need-same-length-7
-same-length-7 c = search needs
 
 returns-5 : tie.Need-returns-5
 unfolding list-call refuse bad-next
 returns-5 c =
     let counted = at-count (else4 (c .before)) in
     rw (aligned (at-page counted), page-is (at-page counted) ∙ counted .before .before .if2 .left, good-count (else4 (c .before)), count-told counted, next-told (c .before), le-leb _ _ (c .if5 .taken))
-
-sub-at-most : tie.Need-sub-at-most
-sub-at-most c = search needs
-
-at-most-requires : tie.Need-at-most-requires
-at-most-requires c κs = search needs
 
 run-requires : tie.Need-run-requires
 unfolding page-of offset-of page-size entries-a-call
@@ -161,12 +113,6 @@ run-requires c κs =
     let counted = at-count (else4 (asked .before .before)) in
     let t = start-of counted .pre in
     record { tested = t; below = omega (arith, pages-tested _ _ t, page-inside (counted .before .before)); within = omega (arith, asked .at-most .ensures) }
-
-same-length-8 : tie.Need-same-length-8
-same-length-8 c = search needs
-
-same-length-9 : tie.Need-same-length-9
-same-length-9 c = search needs
 
 returns-6 : tie.Need-returns-6
 unfolding list-call refuse bad-next run-within
@@ -185,29 +131,29 @@ list-call-spec =
     (tie.spec
     returns
     byte-requires
-    bad-list-page-requires
-    same-length
+    (λ c κs. search needs)
+    (λ c. search needs)
     returns-2
     number2-requires
-    cast-count
-    same-length-2
-    same-length-3
+    (λ c. search needs)
+    (λ c. search needs)
+    (λ c. search needs)
     returns-3
-    add-if4
-    mul-if4
-    add-if4-2
-    same-length-4
-    same-length-5
+    (λ c. search needs)
+    (λ c. search needs)
+    (λ c. search needs)
+    (λ c. search needs)
+    (λ c. search needs)
     returns-4
-    add-number2
+    (λ c. search needs)
     number2-requires-2
-    cast-next
-    same-length-6
-    same-length-7
+    (λ c. search needs)
+    (λ c. search needs)
+    (λ c. search needs)
     returns-5
-    sub-at-most
-    at-most-requires
+    (λ c. search needs)
+    (λ c κs. search needs)
     run-requires
-    same-length-8
-    same-length-9
+    (λ c. search needs)
+    (λ c. search needs)
     returns-6)

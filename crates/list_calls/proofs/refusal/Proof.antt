@@ -5,12 +5,6 @@ use borrow.Author.Needs.{needs}
 use Rattle.list_calls.proofs.refusal.Statement.{statement}
 use Rattle.list_calls.proofs.refusal.Tie as tie
 
-enum-told : tie.Need-enum-told
-enum-told c = search needs
-
-enum-known-entry : tie.Need-enum-known-entry
-enum-known-entry c = search needs
-
 returns : tie.Need-returns
 unfolding entry-code
 returns c = search needs
@@ -20,4 +14,4 @@ unfolding entry-code
 returns-2 c = search needs
 
 pub refusal-spec : {M : Type 1} → statement M
-refusal-spec = tie.close (tie.spec enum-told enum-known-entry returns returns-2)
+refusal-spec = tie.close (tie.spec (λ c. search needs) (λ c. search needs) returns returns-2)

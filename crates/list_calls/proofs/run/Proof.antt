@@ -97,9 +97,6 @@ read-requires c κs =
     let inside = c .before .before .before in
     sizes _ _ (memory-tested _ _ (room inside .tested)) .most
 
-enum-known-entry : tie.Need-enum-known-entry Inv-loop μ-loop
-enum-known-entry c = search needs
-
 enum-told : tie.Need-enum-told Inv-loop μ-loop
 enum-told c = search needs
 
@@ -113,9 +110,6 @@ cast-put-number2 c = omega (arith, room (looped (c .before .before .before)) .wi
 put-number2-requires : tie.Need-put-number2-requires Inv-loop μ-loop
 unfolding page-of offset-of page-size
 put-number2-requires c κs = in-page _ _ _ _ _ _ (room (looped (c .before .before .before))) (omega arith)
-
-refusal-requires : tie.Need-refusal-requires Inv-loop μ-loop
-refusal-requires c κs = search needs
 
 abbrev refused : tie.After-refusal Inv-loop μ-loop → tie.After-enum-told Inv-loop μ-loop
 refused c = let put = c .before .before .before in put .before .before
@@ -207,12 +201,12 @@ run-spec =
     add-number8-2
     number8-requires
     read-requires
-    enum-known-entry
+    (λ c. search needs)
     enum-told
     add-put-number2
     cast-put-number2
     put-number2-requires
-    refusal-requires
+    (λ c κs. search needs)
     same-length
     same-length-2
     returns

@@ -39,12 +39,6 @@ number2-requires : tie.Need-number2-requires
 unfolding page-of offset-of page-size
 number2-requires c κs = in-page _ _ _ _ _ _ (start c .pre) (omega arith)
 
-cast-count : tie.Need-cast-count
-cast-count c = search needs
-
-add-put-number2 : tie.Need-add-put-number2
-add-put-number2 c = search needs
-
 cast-put-number2 : tie.Need-cast-put-number2
 unfolding page-size
 cast-put-number2 c = search needs
@@ -53,14 +47,8 @@ put-number2-requires : tie.Need-put-number2-requires
 unfolding page-of offset-of page-size
 put-number2-requires c κs = in-page _ _ _ _ _ _ (start (c .before .before) .pre) (omega arith)
 
-same-length : tie.Need-same-length
-same-length c = search needs
-
 returns : tie.Need-returns
 returns c = rw (ended (c .before), lt-ltb _ _ (c .if1 .taken))
-
-same-length-2 : tie.Need-same-length-2
-same-length-2 c = search needs
 
 returns-2 : tie.Need-returns-2
 returns-2 c = rw (ended (c .before), le-ltb _ _ (c .if1 .left))
@@ -70,11 +58,11 @@ stop-spec =
     tie.close
     (tie.spec
     number2-requires
-    cast-count
-    add-put-number2
+    (λ c. search needs)
+    (λ c. search needs)
     cast-put-number2
     put-number2-requires
-    same-length
+    (λ c. search needs)
     returns
-    same-length-2
+    (λ c. search needs)
     returns-2)

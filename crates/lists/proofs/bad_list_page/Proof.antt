@@ -39,9 +39,6 @@ bad-by-owner c =
     let same = c .owner-of .ensures ∙ ap (λ (p : ℕ). owner (table-byte (lent s) p)) {y = page-of (s .args .rcx)} (omega arith) in
     rw (good (c .before .before), ← same)
 
-is-usable-requires : tie.Need-is-usable-requires
-is-usable-requires c κs = search needs
-
 returns : tie.Need-returns
 unfolding bad-list-page
 returns c = rw (usable-told (c .before) ∙ not-true _ (c .if1 .taken))
@@ -49,9 +46,6 @@ returns c = rw (usable-told (c .before) ∙ not-true _ (c .if1 .taken))
 shared-slice-read-owner-of : tie.Need-shared-slice-read-owner-of
 unfolding N page-of page-size
 shared-slice-read-owner-of c = omega (arith, usable→ _ _ _ (good (c .before)) .0)
-
-owner-of-requires : tie.Need-owner-of-requires
-owner-of-requires c κs = search needs
 
 returns-2 : tie.Need-returns-2
 returns-2 c = rw (bad-by-owner (c .before), eq-eqb _ 0 (c .if2 .taken), ne-eqb (c .before .owner-of .result) 1 (omega arith))
@@ -67,10 +61,10 @@ pub bad-list-page-spec : {M : Type 1} → statement M
 bad-list-page-spec =
     tie.close
     (tie.spec
-    is-usable-requires
+    (λ c κs. search needs)
     returns
     shared-slice-read-owner-of
-    owner-of-requires
+    (λ c κs. search needs)
     returns-2
     returns-3
     returns-4)

@@ -16,11 +16,8 @@ add-s c = omega (arith, place-ends (c .pre))
 slice-write-s : tie.Need-slice-write-s
 slice-write-s c = omega (arith, place-ends (c .pre))
 
-same-length : tie.Need-same-length
-same-length c = search needs
-
 returns : tie.Need-returns
 returns c = parts-written _ _ _ _ _ (c .pre .below) (c .pre .within)
 
 pub put-byte-spec : {M : Type 1} → statement M
-put-byte-spec = tie.close (tie.spec mul-s add-s slice-write-s same-length returns)
+put-byte-spec = tie.close (tie.spec mul-s add-s slice-write-s (λ c. search needs) returns)

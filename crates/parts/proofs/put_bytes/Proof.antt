@@ -23,20 +23,14 @@ sub-copy c = omega (arith, place-ends (c .before .before .pre))
 part-copy-start : tie.Need-part-copy-start
 part-copy-start c = omega (arith, place-ends (c .before .before .pre))
 
-part-copy-end : tie.Need-part-copy-end
-part-copy-end c = search needs
-
 copy-requires : tie.Need-copy-requires
 copy-requires c κs = simp (length-take, length-drop) (omega (arith, place-ends (c .before .before .before .pre)))
 
-same-length : tie.Need-same-length
-same-length c = search needs
-
 returns : tie.Need-returns
 returns c =
-    let start = c .before .before .before .before .before .before in
+    let at-copy = c .before .before in let at-start = at-copy .before .before in let start = at-start .before .before in
     let ends = place-ends (start .pre) in
-    ap (parts (start .args .size)) (rw (c .before .before .copy .ensures) (sets-tail _ (now (start .args .s)) (now (start .args .bytes)) (omega arith)))
+    ap (parts (start .args .size)) (rw (at-copy .copy .ensures) (sets-tail _ (now (start .args .s)) (now (start .args .bytes)) (omega arith)))
     ∙ parts-written _ _ _ _ _ (start .pre .below) (start .pre .within)
 
 pub put-bytes-spec : {M : Type 1} → statement M
@@ -47,7 +41,7 @@ put-bytes-spec =
     add-start
     sub-copy
     part-copy-start
-    part-copy-end
+    (λ c. search needs)
     copy-requires
-    same-length
+    (λ c. search needs)
     returns)

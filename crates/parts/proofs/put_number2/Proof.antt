@@ -20,14 +20,11 @@ add-write2 c = omega (arith, place-ends (c .before .before .pre))
 write2-requires : tie.Need-write2-requires
 write2-requires c κs = omega (arith, place-ends (c .before .before .pre))
 
-same-length : tie.Need-same-length
-same-length c = search needs
-
 returns : tie.Need-returns
 returns c =
-    let start = c .before .before .before .before .before in
-    ap (parts (start .args .size)) (c .before .before .write2 .ensures)
+    let at-write = c .before .before in let start = at-write .before .before .before in
+    ap (parts (start .args .size)) (at-write .write2 .ensures)
     ∙ parts-written _ _ _ _ _ (start .pre .below) (omega (arith, length-little 2 (start .args .x), start .pre .within))
 
 pub put-number2-spec : {M : Type 1} → statement M
-put-number2-spec = tie.close (tie.spec mul-write2 add-write2 write2-requires same-length returns)
+put-number2-spec = tie.close (tie.spec mul-write2 add-write2 write2-requires (λ c. search needs) returns)

@@ -20,14 +20,11 @@ add-write4 c = omega (arith, place-ends (c .before .before .pre))
 write4-requires : tie.Need-write4-requires
 write4-requires c κs = omega (arith, place-ends (c .before .before .pre))
 
-same-length : tie.Need-same-length
-same-length c = search needs
-
 returns : tie.Need-returns
 returns c =
-    let start = c .before .before .before .before .before in
-    ap (parts (start .args .size)) (c .before .before .write4 .ensures)
+    let at-write = c .before .before in let start = at-write .before .before .before in
+    ap (parts (start .args .size)) (at-write .write4 .ensures)
     ∙ parts-written _ _ _ _ _ (start .pre .below) (omega (arith, length-little 4 (start .args .x), start .pre .within))
 
 pub put-number4-spec : {M : Type 1} → statement M
-put-number4-spec = tie.close (tie.spec mul-write4 add-write4 write4-requires same-length returns)
+put-number4-spec = tie.close (tie.spec mul-write4 add-write4 write4-requires (λ c. search needs) returns)

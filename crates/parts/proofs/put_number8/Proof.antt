@@ -20,14 +20,11 @@ add-write8 c = omega (arith, place-ends (c .before .before .pre))
 write8-requires : tie.Need-write8-requires
 write8-requires c κs = omega (arith, place-ends (c .before .before .pre))
 
-same-length : tie.Need-same-length
-same-length c = search needs
-
 returns : tie.Need-returns
 returns c =
-    let start = c .before .before .before .before .before in
-    ap (parts (start .args .size)) (c .before .before .write8 .ensures)
+    let at-write = c .before .before in let start = at-write .before .before .before in
+    ap (parts (start .args .size)) (at-write .write8 .ensures)
     ∙ parts-written _ _ _ _ _ (start .pre .below) (omega (arith, length-little 8 (start .args .x), start .pre .within))
 
 pub put-number8-spec : {M : Type 1} → statement M
-put-number8-spec = tie.close (tie.spec mul-write8 add-write8 write8-requires same-length returns)
+put-number8-spec = tie.close (tie.spec mul-write8 add-write8 write8-requires (λ c. search needs) returns)

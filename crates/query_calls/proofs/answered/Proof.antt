@@ -17,12 +17,9 @@ returns-2 : tie.Need-returns-2
 unfolding vtom refuse bit
 returns-2 c = rw (ne-eqb _ _ (c .before .if1 .left), div-one, eq-eqb _ _ (c .if2 .taken))
 
-configured-requires : tie.Need-configured-requires
-configured-requires c κs = search needs
-
 returns-3 : tie.Need-returns-3
 unfolding vtom refuse bit
 returns-3 c = rw (ne-eqb _ _ (c .before .before .if1 .left), div-one, ne-eqb _ _ (c .before .if2 .left)) (c .configured .ensures)
 
 pub answered-spec : {M : Type 1} → statement M
-answered-spec = tie.close (tie.spec returns returns-2 configured-requires returns-3)
+answered-spec = tie.close (tie.spec returns returns-2 (λ c κs. search needs) returns-3)

@@ -5,9 +5,6 @@ use borrow.Author.Needs.{needs}
 use Rattle.remap_call.proofs.is_foreign.Statement.{statement}
 use Rattle.remap_call.proofs.is_foreign.Tie as tie
 
-owner-of-requires : tie.Need-owner-of-requires
-owner-of-requires c κs = search needs
-
 returns : tie.Need-returns
 returns c = rw (← c .before .owner-of .ensures, eq-eqb _ 0 (c .if1 .taken))
 
@@ -15,4 +12,4 @@ returns-2 : tie.Need-returns-2
 returns-2 c = rw (← c .before .owner-of .ensures, ne-eqb _ 0 (c .if1 .left))
 
 pub is-foreign-spec : {M : Type 1} → statement M
-is-foreign-spec = tie.close (tie.spec owner-of-requires returns returns-2)
+is-foreign-spec = tie.close (tie.spec (λ c κs. search needs) returns returns-2)

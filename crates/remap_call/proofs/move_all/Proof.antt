@@ -56,15 +56,6 @@ put-byte-requires-2 c κs =
     let same = same-parts page-size (now (start4 c .args .memory)) (at-memory .before .put-byte .last .0) (at-memory .before .put-byte .kept .0) in
     record { some = lit< tt; below = omega (arith, same, pages-tested _ _ (pre .tested), pre .new-below); within = lit≤ tt }
 
-same-length : tie.Need-same-length
-same-length c = search needs
-
-same-length-2 : tie.Need-same-length-2
-same-length-2 c = search needs
-
-same-length-3 : tie.Need-same-length-3
-same-length-3 c = search needs
-
 returns : tie.Need-returns
 unfolding parted page-size record-size
 returns c =
@@ -85,7 +76,7 @@ move-all-spec =
     put-number4-requires
     put-byte-requires
     put-byte-requires-2
-    same-length
-    same-length-2
-    same-length-3
+    (λ c. search needs)
+    (λ c. search needs)
+    (λ c. search needs)
     returns)

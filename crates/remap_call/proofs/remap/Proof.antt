@@ -58,15 +58,6 @@ returns c = odd _ _ _ (c .if1 .taken)
 byte-requires : tie.Need-byte-requires
 byte-requires c κs = at (caller-row (start (c .before) .pre)) _ _ (lit≤ tt)
 
-is-usable-requires : tie.Need-is-usable-requires
-is-usable-requires c κs = search needs
-
-same-length : tie.Need-same-length
-same-length c = search needs
-
-same-length-2 : tie.Need-same-length-2
-same-length-2 c = search needs
-
 returns-2 : tie.Need-returns-2
 unfolding page-size record-size
 returns-2 c =
@@ -76,21 +67,9 @@ returns-2 c =
 number4-requires : tie.Need-number4-requires
 number4-requires c κs = at (caller-row (start (usable-at (c .before .before)) .pre)) _ _ (lit≤ tt)
 
-cast-old : tie.Need-cast-old
-cast-old c = search needs
-
 slice-read-is-foreign : tie.Need-slice-read-is-foreign
 unfolding page-of page-size
 slice-read-is-foreign c = let at-if2 = c .before .before .before in omega (arith, new-below at-if2)
-
-is-foreign-requires : tie.Need-is-foreign-requires
-is-foreign-requires c κs = search needs
-
-same-length-3 : tie.Need-same-length-3
-same-length-3 c = search needs
-
-same-length-4 : tie.Need-same-length-4
-same-length-4 c = search needs
 
 returns-3 : tie.Need-returns-3
 unfolding page-size record-size
@@ -104,15 +83,6 @@ move-all-requires c κs =
     let at-if3 = c .before .before .before in let old = at-if3 .before .before .before in let at-if2 = old .before .before in
     let tested = start (usable-at (at-if2 .before)) .pre in
     record { tested = tested; old-below = rw (old .number4 .ensures) (caller-names _ _ tested .calling); new-below = omega (arith, new-below at-if2) }
-
-same-length-5 : tie.Need-same-length-5
-same-length-5 c = search needs
-
-same-length-6 : tie.Need-same-length-6
-same-length-6 c = search needs
-
-same-length-7 : tie.Need-same-length-7
-same-length-7 c = search needs
 
 returns-4 : tie.Need-returns-4
 unfolding page-of page-size record-size
@@ -130,19 +100,19 @@ remap-spec =
     (tie.spec
     returns
     byte-requires
-    is-usable-requires
-    same-length
-    same-length-2
+    (λ c κs. search needs)
+    (λ c. search needs)
+    (λ c. search needs)
     returns-2
     number4-requires
-    cast-old
+    (λ c. search needs)
     slice-read-is-foreign
-    is-foreign-requires
-    same-length-3
-    same-length-4
+    (λ c κs. search needs)
+    (λ c. search needs)
+    (λ c. search needs)
     returns-3
     move-all-requires
-    same-length-5
-    same-length-6
-    same-length-7
+    (λ c. search needs)
+    (λ c. search needs)
+    (λ c. search needs)
     returns-4)

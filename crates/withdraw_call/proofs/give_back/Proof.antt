@@ -21,12 +21,6 @@ start c = let known = c .before in known .before .before .before
 told : (c : tie.After-is-free) → is-free (getD (now (start c .args .table)) (start c .args .p) 0) ≡ c .is-free .result
 told c = sym (c .is-free .ensures)
 
-slice-read-b : tie.Need-slice-read-b
-slice-read-b c = search needs
-
-is-free-requires : tie.Need-is-free-requires
-is-free-requires c κs = search needs
-
 returns : tie.Need-returns
 unfolding places
 returns c = rw (told (c .before) ∙ not-true _ (c .if1 .taken)) (given-none _ _ _ _ _)
@@ -39,21 +33,6 @@ put-number8-requires : tie.Need-put-number8-requires
 unfolding page-size
 put-number8-requires c κs = let room = start (c .before .before) .pre .0 in record { some = lit< tt; below = room .below; within = room .within }
 
-owned-requires : tie.Need-owned-requires
-owned-requires c κs = search needs
-
-granted-requires : tie.Need-granted-requires
-granted-requires c κs = search needs
-
-slice-write-table : tie.Need-slice-write-table
-slice-write-table c = search needs
-
-same-length : tie.Need-same-length
-same-length c = search needs
-
-same-length-2 : tie.Need-same-length-2
-same-length-2 c = search needs
-
 returns-2 : tie.Need-returns-2
 unfolding places each little gpas freed page-size
 returns-2 c =
@@ -65,14 +44,14 @@ pub give-back-spec : {M : Type 1} → statement M
 give-back-spec =
     tie.close
     (tie.spec
-    slice-read-b
-    is-free-requires
+    (λ c. search needs)
+    (λ c κs. search needs)
     returns
     mul-put-number8
     put-number8-requires
-    owned-requires
-    granted-requires
-    slice-write-table
-    same-length
-    same-length-2
+    (λ c κs. search needs)
+    (λ c κs. search needs)
+    (λ c. search needs)
+    (λ c. search needs)
+    (λ c. search needs)
     returns-2)

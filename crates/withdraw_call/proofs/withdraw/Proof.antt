@@ -68,24 +68,9 @@ byte-requires : tie.Need-byte-requires
 unfolding record-size
 byte-requires c κs = vmpl-place _ _ (start c .pre)
 
-bad-list-page-requires : tie.Need-bad-list-page-requires
-bad-list-page-requires c κs = search needs
-
-same-length : tie.Need-same-length
-same-length c = search needs
-
 returns-3 : tie.Need-returns-3
 unfolding withdraw refuse
 returns-3 c = rw (good-head (headed (c .before)), page-is (c .before), c .if3 .taken)
-
-sub-room : tie.Need-sub-room
-sub-room c = search needs
-
-sub-room-2 : tie.Need-sub-room-2
-sub-room-2 c = search needs
-
-add-give-pages : tie.Need-add-give-pages
-add-give-pages c = search needs
 
 give-pages-requires : tie.Need-give-pages-requires
 unfolding page-size page-of memory-sized
@@ -113,12 +98,6 @@ put-number2-requires c κs =
       within = omega (arith, headed (at-if3 .before) .before .if1 .left);
     }
 
-same-length-2 : tie.Need-same-length-2
-same-length-2 c = search needs
-
-same-length-3 : tie.Need-same-length-3
-same-length-3 c = search needs
-
 returns-4 : tie.Need-returns-4
 unfolding withdraw refuse offset-of page-size record-size page-of
 returns-4 c =
@@ -136,15 +115,15 @@ withdraw-spec =
     returns
     returns-2
     byte-requires
-    bad-list-page-requires
-    same-length
+    (λ c κs. search needs)
+    (λ c. search needs)
     returns-3
-    sub-room
-    sub-room-2
-    add-give-pages
+    (λ c. search needs)
+    (λ c. search needs)
+    (λ c. search needs)
     give-pages-requires
     cast-put-number2
     put-number2-requires
-    same-length-2
-    same-length-3
+    (λ c. search needs)
+    (λ c. search needs)
     returns-4)

@@ -14,28 +14,10 @@ unfolding little
 four a b d e ha hb hd he =
     ap₂ {B = List ℕ} _∷_ (omega arith) (ap₂ {B = List ℕ} _∷_ (omega arith) (ap₂ {B = List ℕ} _∷_ (omega arith) (ap₂ {B = List ℕ} _∷_ (omega arith) refl)))
 
-mul-result : tie.Need-mul-result
-mul-result c = search needs
-
-add-result : tie.Need-add-result
-add-result c = search needs
-
-mul-result-2 : tie.Need-mul-result-2
-mul-result-2 c = search needs
-
-add-result-2 : tie.Need-add-result-2
-add-result-2 c = search needs
-
-mul-result-3 : tie.Need-mul-result-3
-mul-result-3 c = search needs
-
-add-result-3 : tie.Need-add-result-3
-add-result-3 c = search needs
-
 returns : tie.Need-returns
 returns c = four _ _ _ _ (omega arith) (omega arith) (omega arith) (omega arith)
 
 pub join4-spec : {M : Type 1} → statement M
 join4-spec =
     tie.close
-    (tie.spec mul-result add-result mul-result-2 add-result-2 mul-result-3 add-result-3 returns)
+    (tie.spec (λ c. search needs) (λ c. search needs) (λ c. search needs) (λ c. search needs) (λ c. search needs) (λ c. search needs) returns)

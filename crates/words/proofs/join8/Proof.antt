@@ -6,14 +6,8 @@ use borrow.Author.Needs.{needs}
 use Rattle.words.proofs.join8.Statement.{statement}
 use Rattle.words.proofs.join8.Tie as tie
 
-mul-result : tie.Need-mul-result
-mul-result c = search needs
-
-add-result : tie.Need-add-result
-add-result c = search needs
-
 returns : tie.Need-returns
 returns c = little-pair 4 _ _ (omega arith)
 
 pub join8-spec : {M : Type 1} → statement M
-join8-spec = tie.close (tie.spec mul-result add-result returns)
+join8-spec = tie.close (tie.spec (λ c. search needs) (λ c. search needs) returns)

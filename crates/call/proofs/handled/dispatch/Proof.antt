@@ -15,105 +15,33 @@ use Rattle.call.proofs.handled.dispatch.Tie as tie
 abbrev at-start : tie.After-struct-known → tie.Start
 at-start c = let at-lengths = c .before in at-lengths .before .before .before
 
-cast-number : tie.Need-cast-number
-cast-number c = search needs
-
-remap-requires : tie.Need-remap-requires
-remap-requires c κs = search needs
-
-list-call-requires : tie.Need-list-call-requires
-list-call-requires c κs = search needs
-
-create-requires : tie.Need-create-requires
-create-requires c κs = search needs
-
-delete-requires : tie.Need-delete-requires
-delete-requires c κs = search needs
-
-list-call-requires-2 : tie.Need-list-call-requires-2
-list-call-requires-2 c κs = search needs
-
-withdraw-requires : tie.Need-withdraw-requires
-withdraw-requires c κs = search needs
-
-queried-requires : tie.Need-queried-requires
-queried-requires c κs = search needs
-
 returns : tie.Need-returns
 unfolding dispatch on-rcx with-rcx
 returns c = rw (named (at-start (c .before .before) .args .g) 6 (c .before .match .keys7), c .queried .ensures)
 
-answered-requires : tie.Need-answered-requires
-answered-requires c κs = search needs
-
 returns-2 : tie.Need-returns-2
 unfolding dispatch on-rcx with-rcx
 returns-2 c = rw (named (at-start (c .before .before) .args .g) 7 (c .before .match .keys8), c .answered .ensures)
-
-same-length : tie.Need-same-length
-same-length c = search needs
-
-same-length-2 : tie.Need-same-length-2
-same-length-2 c = search needs
-
-same-length-3 : tie.Need-same-length-3
-same-length-3 c = search needs
 
 returns-3 : tie.Need-returns-3
 unfolding dispatch on-lent with-lent with-rcx
 returns-3 c = let at-sheet = c .before .before in let at-table = at-sheet .before .before in let at-remap = at-table .before .before in let at-args = at-remap .before in let at-arm = at-args .before .before .before in
     rw (named (at-start (at-arm .before) .args .g) 0 (at-arm .match .keys1), at-remap .remap .ensures)
 
-same-length-4 : tie.Need-same-length-4
-same-length-4 c = search needs
-
-same-length-5 : tie.Need-same-length-5
-same-length-5 c = search needs
-
-same-length-6 : tie.Need-same-length-6
-same-length-6 c = search needs
-
 returns-4 : tie.Need-returns-4
 unfolding dispatch on-lent with-lent with-rcx
 returns-4 c = let at-table = c .before .before in let at-list-call = at-table .before .before in let at-args = at-list-call .before in let at-arm = at-args .before .before .before in
     rw (named (at-start (at-arm .before) .args .g) 1 (at-arm .match .keys2), at-list-call .list-call .ensures)
-
-same-length-7 : tie.Need-same-length-7
-same-length-7 c = search needs
-
-same-length-8 : tie.Need-same-length-8
-same-length-8 c = search needs
-
-same-length-9 : tie.Need-same-length-9
-same-length-9 c = search needs
 
 returns-5 : tie.Need-returns-5
 unfolding dispatch on-lent with-lent with-rcx
 returns-5 c = let at-sheet = c .before .before in let at-create = at-sheet .before .before in let at-args = at-create .before in let at-arm = at-args .before .before .before in
     rw (named (at-start (at-arm .before) .args .g) 2 (at-arm .match .keys3), at-create .create .ensures)
 
-same-length-10 : tie.Need-same-length-10
-same-length-10 c = search needs
-
-same-length-11 : tie.Need-same-length-11
-same-length-11 c = search needs
-
-same-length-12 : tie.Need-same-length-12
-same-length-12 c = search needs
-
 returns-6 : tie.Need-returns-6
 unfolding dispatch on-lent with-lent with-rcx
 returns-6 c = let at-sheet = c .before .before in let at-table = at-sheet .before .before in let at-delete = at-table .before .before in let at-args = at-delete .before in let at-arm = at-args .before .before .before in
     rw (named (at-start (at-arm .before) .args .g) 3 (at-arm .match .keys4), at-delete .delete .ensures)
-
-same-length-13 : tie.Need-same-length-13
-same-length-13 c = search needs
-
-same-length-14 : tie.Need-same-length-14
-same-length-14 c = search needs
-
-same-length-15 : tie.Need-same-length-15
-same-length-15 c = search needs
 
 returns-7 : tie.Need-returns-7
 unfolding dispatch on-lent with-lent with-rcx
@@ -121,15 +49,6 @@ returns-7 c =
     let at-table = c .before .before in let at-deposit = at-table .before .before in let at-args = at-deposit .before in let at-arm = at-args .before .before .before in
     let done : list-call entries-a-call Deposit _ _ _ ≡ _ = at-deposit .list-call2 .ensures in
     rw (named (at-start (at-arm .before) .args .g) 4 (at-arm .match .keys5), done)
-
-same-length-16 : tie.Need-same-length-16
-same-length-16 c = search needs
-
-same-length-17 : tie.Need-same-length-17
-same-length-17 c = search needs
-
-same-length-18 : tie.Need-same-length-18
-same-length-18 c = search needs
 
 returns-8 : tie.Need-returns-8
 unfolding dispatch on-lent with-lent with-rcx
@@ -144,39 +63,39 @@ pub dispatch-spec : {M : Type 1} → statement M
 dispatch-spec =
     tie.close
     (tie.spec
-    cast-number
-    remap-requires
-    list-call-requires
-    create-requires
-    delete-requires
-    list-call-requires-2
-    withdraw-requires
-    queried-requires
+    (λ c. search needs)
+    (λ c κs. search needs)
+    (λ c κs. search needs)
+    (λ c κs. search needs)
+    (λ c κs. search needs)
+    (λ c κs. search needs)
+    (λ c κs. search needs)
+    (λ c κs. search needs)
     returns
-    answered-requires
+    (λ c κs. search needs)
     returns-2
-    same-length
-    same-length-2
-    same-length-3
+    (λ c. search needs)
+    (λ c. search needs)
+    (λ c. search needs)
     returns-3
-    same-length-4
-    same-length-5
-    same-length-6
+    (λ c. search needs)
+    (λ c. search needs)
+    (λ c. search needs)
     returns-4
-    same-length-7
-    same-length-8
-    same-length-9
+    (λ c. search needs)
+    (λ c. search needs)
+    (λ c. search needs)
     returns-5
-    same-length-10
-    same-length-11
-    same-length-12
+    (λ c. search needs)
+    (λ c. search needs)
+    (λ c. search needs)
     returns-6
-    same-length-13
-    same-length-14
-    same-length-15
+    (λ c. search needs)
+    (λ c. search needs)
+    (λ c. search needs)
     returns-7
-    same-length-16
-    same-length-17
-    same-length-18
+    (λ c. search needs)
+    (λ c. search needs)
+    (λ c. search needs)
     returns-8
     returns-9)

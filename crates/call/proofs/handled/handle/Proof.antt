@@ -23,47 +23,14 @@ few c = omega (arith, c .before .if1 .left)
 split : (c : tie.After-struct-known) → protocol (g c) ≡ g c .rax / 4294967296
 split c = protocol-is (g c) (fits-lt-pow (c .struct-known .given .0))
 
-pending-requires : tie.Need-pending-requires
-pending-requires c κs = search needs
-
-same-length : tie.Need-same-length
-same-length c = search needs
-
-same-length-2 : tie.Need-same-length-2
-same-length-2 c = search needs
-
-same-length-3 : tie.Need-same-length-3
-same-length-3 c = search needs
-
 returns : tie.Need-returns
 unfolding handle refuse with-rcx
 returns c = rw (← c .before .pending .ensures, le-leb 2 (c .before .pending .result) (omega (arith, c .if1 .taken)))
-
-same-length-4 : tie.Need-same-length-4
-same-length-4 c = search needs
-
-same-length-5 : tie.Need-same-length-5
-same-length-5 c = search needs
-
-same-length-6 : tie.Need-same-length-6
-same-length-6 c = search needs
 
 returns-2 : tie.Need-returns-2
 unfolding handle refuse with-rcx
 returns-2 c = let at-rax = c .before in
     rw (← at-rax .before .before .pending .ensures, lt-leb _ _ (few at-rax), split at-rax, ne-eqb (g at-rax .rax / 4294967296) 0 (omega (arith, c .if2 .taken)))
-
-dispatch-requires : tie.Need-dispatch-requires
-dispatch-requires c κs = search needs
-
-same-length-7 : tie.Need-same-length-7
-same-length-7 c = search needs
-
-same-length-8 : tie.Need-same-length-8
-same-length-8 c = search needs
-
-same-length-9 : tie.Need-same-length-9
-same-length-9 c = search needs
 
 returns-3 : tie.Need-returns-3
 unfolding handle refuse
@@ -76,17 +43,17 @@ pub handle-spec : {M : Type 1} → statement M
 handle-spec =
     tie.close
     (tie.spec
-    pending-requires
-    same-length
-    same-length-2
-    same-length-3
+    (λ c κs. search needs)
+    (λ c. search needs)
+    (λ c. search needs)
+    (λ c. search needs)
     returns
-    same-length-4
-    same-length-5
-    same-length-6
+    (λ c. search needs)
+    (λ c. search needs)
+    (λ c. search needs)
     returns-2
-    dispatch-requires
-    same-length-7
-    same-length-8
-    same-length-9
+    (λ c κs. search needs)
+    (λ c. search needs)
+    (λ c. search needs)
+    (λ c. search needs)
     returns-3)

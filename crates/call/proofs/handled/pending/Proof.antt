@@ -15,9 +15,6 @@ number4-requires : tie.Need-number4-requires
 unfolding record-size records
 number4-requires c κs = let tested = c .before .before .before .pre in at (record { sized = sheet-tested _ _ tested; below = caller-below _ _ tested }) _ _ (lit≤ tt)
 
-cast-page : tie.Need-cast-page
-cast-page c = search needs
-
 byte-requires : tie.Need-byte-requires
 unfolding page-size record-size fields
 byte-requires c κs =
@@ -29,4 +26,4 @@ unfolding pending page-at vcpu record-at fields parted record-size page-size
 returns c = rw (← c .before .number4 .ensures) (c .byte .ensures)
 
 pub pending-spec : {M : Type 1} → statement M
-pending-spec = tie.close (tie.spec number4-requires cast-page byte-requires returns)
+pending-spec = tie.close (tie.spec number4-requires (λ c. search needs) byte-requires returns)

@@ -15,15 +15,9 @@ number4-requires : tie.Need-number4-requires
 unfolding record-size records
 number4-requires c κs = at (c .before .before .before .pre) _ _ (lit≤ tt)
 
-cast-page : tie.Need-cast-page
-cast-page c = search needs
-
 put-byte-requires : tie.Need-put-byte-requires
 unfolding page-size
 put-byte-requires c κs = lit< tt
-
-same-length : tie.Need-same-length
-same-length c = search needs
 
 returns : tie.Need-returns
 unfolding clear-pending write with-memory vcpu record-at startup fields parted any-free record-size
@@ -31,4 +25,4 @@ returns c = let at-put-byte = c .before .before in rw (← at-put-byte .before .
 
 pub clear-pending-spec : {M : Type 1} → statement M
 clear-pending-spec =
-    tie.close (tie.spec number4-requires cast-page put-byte-requires same-length returns)
+    tie.close (tie.spec number4-requires (λ c. search needs) put-byte-requires (λ c. search needs) returns)

@@ -5,9 +5,6 @@ use borrow.Author.Needs.{needs}
 use Rattle.call.proofs.last.flag.Statement.{statement}
 use Rattle.call.proofs.last.flag.Tie as tie
 
-any-free-requires : tie.Need-any-free-requires
-any-free-requires c κs = search needs
-
 returns : tie.Need-returns
 unfolding exists
 returns c = search needs
@@ -17,4 +14,4 @@ unfolding exists
 returns-2 c = search needs
 
 pub flag-spec : {M : Type 1} → statement M
-flag-spec = tie.close (tie.spec any-free-requires returns returns-2)
+flag-spec = tie.close (tie.spec (λ c κs. search needs) returns returns-2)

@@ -16,9 +16,6 @@ put-byte-requires : tie.Need-put-byte-requires
 unfolding page-size
 put-byte-requires c κs = record { some = lit< tt; below = rw length-parts (c .before .if1 .taken); within = omega (arith, c .before .before .before .pre) }
 
-same-length : tie.Need-same-length
-same-length c = search needs
-
 returns : tie.Need-returns
 unfolding page-size
 returns c = c .before .before .put-byte .ensures
@@ -28,4 +25,4 @@ unfolding written page-size
 returns-2 c = sym (set-out (parts page-size _) _ _ (rw length-parts (c .if1 .left)))
 
 pub put-byte-spec : {M : Type 1} → statement M
-put-byte-spec = tie.close (tie.spec put-byte-requires same-length returns returns-2)
+put-byte-spec = tie.close (tie.spec put-byte-requires (λ c. search needs) returns returns-2)

@@ -15,18 +15,9 @@ number4-requires : tie.Need-number4-requires
 unfolding record-size records
 number4-requires c κs = at (c .before .before .before .pre) _ _ (lit≤ tt)
 
-cast-page : tie.Need-cast-page
-cast-page c = search needs
-
-flag-requires : tie.Need-flag-requires
-flag-requires c κs = search needs
-
 put-byte-requires : tie.Need-put-byte-requires
 unfolding page-size
 put-byte-requires c κs = lit< tt
-
-same-length : tie.Need-same-length
-same-length c = search needs
 
 returns : tie.Need-returns
 unfolding set-flag write with-memory vcpu record-at startup fields parted any-free record-size
@@ -35,4 +26,4 @@ returns c = let at-flag = c .before .before .before in rw (← at-flag .before .
 pub set-flag-spec : {M : Type 1} → statement M
 set-flag-spec =
     tie.close
-    (tie.spec number4-requires cast-page flag-requires put-byte-requires same-length returns)
+    (tie.spec number4-requires (λ c. search needs) (λ c κs. search needs) put-byte-requires (λ c. search needs) returns)

@@ -57,9 +57,6 @@ add-p c = omega arith
 shared-slice-read-owner-of : tie.Need-shared-slice-read-owner-of Inv-loop μ-loop
 shared-slice-read-owner-of c = omega arith
 
-owner-of-requires : tie.Need-owner-of-requires Inv-loop μ-loop
-owner-of-requires c κs = search needs
-
 returns : tie.Need-returns Inv-loop μ-loop
 returns c =
     let at-loop = round (c .before) in
@@ -98,7 +95,7 @@ all-coverable-spec =
     loop-holds
     add-p
     shared-slice-read-owner-of
-    owner-of-requires
+    (λ c κs. search needs)
     returns
     returns-2
     add-i

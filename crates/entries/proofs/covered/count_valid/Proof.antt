@@ -36,9 +36,6 @@ add-valid-bit c = omega arith
 shared-slice-read-valid-bit : tie.Need-shared-slice-read-valid-bit Inv-loop μ-loop
 shared-slice-read-valid-bit c = omega arith
 
-valid-bit-requires : tie.Need-valid-bit-requires Inv-loop μ-loop
-valid-bit-requires c κs = search needs
-
 add-found : tie.Need-add-found Inv-loop μ-loop
 add-found c =
     let at-loop = c .before .before .before in let a = at-loop .before .before .args in let i = at-loop .loop .i in
@@ -68,7 +65,7 @@ count-valid-spec =
     loop-holds
     add-valid-bit
     shared-slice-read-valid-bit
-    valid-bit-requires
+    (λ c κs. search needs)
     add-found
     add-i
     loop-less

@@ -24,9 +24,6 @@ returns : tie.Need-returns
 unfolding malformed
 returns c = rw (size-is (c .before .args .e), lt-ltb 1 _ (c .if1 .taken))
 
-reserved-requires : tie.Need-reserved-requires
-reserved-requires c κs = search needs
-
 returns-2 : tie.Need-returns-2
 returns-2 c = rw (told (c .before), ne-eqb _ 0 (c .if2 .taken))
 
@@ -38,4 +35,4 @@ unfolding large
 returns-4 c = rw (told (c .before .before), eq-eqb _ 0 (c .before .if2 .left), eq-eqb _ 1 (c .if3 .left))
 
 pub is-malformed-spec : {M : Type 1} → statement M
-is-malformed-spec = tie.close (tie.spec returns reserved-requires returns-2 returns-3 returns-4)
+is-malformed-spec = tie.close (tie.spec returns (λ c κs. search needs) returns-2 returns-3 returns-4)

@@ -37,41 +37,20 @@ covers c =
     let test = coverable (a .vmpl) (page-size * a .list) (table-alone (now (a .table))) in
     sym (c .all-coverable .ensures ∙ ap (λ (first : ℕ). every test (range first (sized c .pages-of .result))) (omega arith))
 
-is-malformed-requires : tie.Need-is-malformed-requires
-is-malformed-requires c κs = search needs
-
 returns : tie.Need-returns
 returns c = sym (read-malformed _ _ _ _ _ (sym (c .before .is-malformed .ensures) ∙ c .if1 .taken))
-
-pages-of-requires : tie.Need-pages-of-requires
-pages-of-requires c κs = search needs
 
 returns-2 : tie.Need-returns-2
 returns-2 c = sym (read-beyond _ _ _ _ _ _ _ (formed (c .before)) (omega arith))
 
-sub-if3 : tie.Need-sub-if3
-sub-if3 c = search needs
-
 returns-3 : tie.Need-returns-3
 returns-3 c = sym (read-beyond _ _ _ _ _ _ _ (formed (c .before .before)) (omega arith))
-
-all-coverable-requires : tie.Need-all-coverable-requires
-all-coverable-requires c κs = search needs
 
 returns-4 : tie.Need-returns-4
 returns-4 c = sym (read-foreign _ _ _ _ _ _ _ (formed (sized (c .before))) (covers (c .before) ∙ not-true _ (c .if4 .taken)))
 
 enum-told : tie.Need-enum-told
 enum-told c = search needs
-
-read-pvalidate-requires : tie.Need-read-pvalidate-requires
-read-pvalidate-requires c κs = search needs
-
-enum-told-2 : tie.Need-enum-told-2
-enum-told-2 c = search needs
-
-read-deposit-requires : tie.Need-read-deposit-requires
-read-deposit-requires c κs = search needs
 
 returns-5 : tie.Need-returns-5
 returns-5 c =
@@ -89,17 +68,17 @@ pub read-spec : {M : Type 1} → statement M
 read-spec =
     tie.close
     (tie.spec
-    is-malformed-requires
+    (λ c κs. search needs)
     returns
-    pages-of-requires
+    (λ c κs. search needs)
     returns-2
-    sub-if3
+    (λ c. search needs)
     returns-3
-    all-coverable-requires
+    (λ c κs. search needs)
     returns-4
     enum-told
-    read-pvalidate-requires
-    enum-told-2
-    read-deposit-requires
+    (λ c κs. search needs)
+    (λ c. search needs)
+    (λ c κs. search needs)
     returns-5
     returns-6)

@@ -24,9 +24,6 @@ all-told c =
     (λ p l h. usable-is (a .vmpl) (now (a .table)) p (omega (arith, c .before .before .pre)))
     ∙ all-by-count (now (a .table)) (a .first) (a .n) _ (c .count-valid .ensures)
 
-count-valid-requires : tie.Need-count-valid-requires
-count-valid-requires c κs = search needs
-
 returns : tie.Need-returns
 returns c = rw (all-told (c .before), ne-eqb _ _ (c .if1 .taken))
 
@@ -34,4 +31,4 @@ returns-2 : tie.Need-returns-2
 returns-2 c = rw (all-told (c .before), eq-eqb _ _ (c .if1 .left))
 
 pub read-deposit-spec : {M : Type 1} → statement M
-read-deposit-spec = tie.close (tie.spec count-valid-requires returns returns-2)
+read-deposit-spec = tie.close (tie.spec (λ c κs. search needs) returns returns-2)

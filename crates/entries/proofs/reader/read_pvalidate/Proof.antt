@@ -22,28 +22,16 @@ by-count c = let a = c .before .before .args in judged-by-count (now (a .table))
 unmixed : (c : tie.Else1) → c .before .is-mixed .result ≡ false
 unmixed c = let left = c .if1 .left in by-test (c .before .is-mixed .result) (λ t. absurd (true≢false (rw t at left))) (λ t. t)
 
-count-valid-requires : tie.Need-count-valid-requires
-count-valid-requires c κs = search needs
-
-is-mixed-requires : tie.Need-is-mixed-requires
-is-mixed-requires c κs = search needs
-
 returns : tie.Need-returns
 returns c =
     let said = c .before .is-mixed in let taken = c .if1 .taken in
     let mixed : said .result ≡ true = by-test (said .result) (λ t. t) (λ t. absurd (false≢true (rw t at taken))) in
     rw (by-count (c .before .before), ← said .ensures, mixed)
 
-is-unchanged-requires : tie.Need-is-unchanged-requires
-is-unchanged-requires c κs = search needs
-
 returns-2 : tie.Need-returns-2
 returns-2 c =
     let at-if1 = c .before .before in
     rw (by-count (at-if1 .before .before), ← at-if1 .before .is-mixed .ensures, unmixed at-if1, ← c .before .is-unchanged .ensures, c .if2 .taken)
-
-wish-of-requires : tie.Need-wish-of-requires
-wish-of-requires c κs = search needs
 
 returns-3 : tie.Need-returns-3
 returns-3 c =
@@ -54,10 +42,10 @@ pub read-pvalidate-spec : {M : Type 1} → statement M
 read-pvalidate-spec =
     tie.close
     (tie.spec
-    count-valid-requires
-    is-mixed-requires
+    (λ c κs. search needs)
+    (λ c κs. search needs)
     returns
-    is-unchanged-requires
+    (λ c κs. search needs)
     returns-2
-    wish-of-requires
+    (λ c κs. search needs)
     returns-3)

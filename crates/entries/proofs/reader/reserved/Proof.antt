@@ -9,9 +9,6 @@ use Rattle.entries.proofs.reader.reserved.Tie as tie
 enum-told : tie.Need-enum-told
 enum-told c = search needs
 
-enum-told-2 : tie.Need-enum-told-2
-enum-told-2 c = search needs
-
 returns : tie.Need-returns
 unfolding reserved-bits bits
 returns c = rw (c .enum-told .given .1)
@@ -21,4 +18,4 @@ unfolding reserved-bits bits
 returns-2 c = rw (c .enum-told2 .given .1)
 
 pub reserved-spec : {M : Type 1} → statement M
-reserved-spec = tie.close (tie.spec enum-told enum-told-2 returns returns-2)
+reserved-spec = tie.close (tie.spec enum-told (λ c. search needs) returns returns-2)

@@ -10,15 +10,9 @@ returns : tie.Need-returns
 unfolding areas-meet
 returns c = rw (eq-eqb _ _ (c .if1 .taken))
 
-in-monitor-requires : tie.Need-in-monitor-requires
-in-monitor-requires c κs = search needs
-
 returns-2 : tie.Need-returns-2
 unfolding areas-meet
 returns-2 c = rw (ne-eqb _ _ (c .before .before .if1 .left), ← c .before .in-monitor .ensures, c .if2 .taken)
-
-in-monitor-requires-2 : tie.Need-in-monitor-requires-2
-in-monitor-requires-2 c κs = search needs
 
 returns-3 : tie.Need-returns-3
 unfolding areas-meet
@@ -26,4 +20,4 @@ returns-3 c = let at-in = c .before .before in rw (ne-eqb _ _ (at-in .before .if
 
 pub areas-meet-spec : {M : Type 1} → statement M
 areas-meet-spec =
-    tie.close (tie.spec returns in-monitor-requires returns-2 in-monitor-requires-2 returns-3)
+    tie.close (tie.spec returns (λ c κs. search needs) returns-2 (λ c κs. search needs) returns-3)

@@ -46,9 +46,6 @@ within c = sym (c .before .out-of-range .ensures) ∙ c .if4 .left
 apart : (c : tie.Else5) → areas-meet (start₁ (else₂ (else₄ c) .before) .args .plan) ≡ false
 apart c = sym (c .before .areas-meet .ensures) ∙ c .if5 .left
 
-fits-requires : tie.Need-fits-requires
-fits-requires c κs = search needs
-
 returns : tie.Need-returns
 unfolding Launch-promise well-sized memory-sized
 returns c = launch-unsized _ _ _ (rw (sym (c .before .fits2 .ensures) ∙ not-true _ (c .if1 .taken)))
@@ -61,15 +58,9 @@ returns-3 : tie.Need-returns-3
 unfolding Launch-promise
 returns-3 c = launch-unsized _ _ _ (rw (sized (c .before), ne-eqb _ _ (c .if3 .taken)))
 
-out-of-range-requires : tie.Need-out-of-range-requires
-out-of-range-requires c κs = search needs
-
 returns-4 : tie.Need-returns-4
 unfolding Launch-promise N parted
 returns-4 c = launch-out-of-range _ _ _ (sized (c .before .before .before)) (eq-eqb _ _ (c .before .before .if3 .left)) (sym (c .before .out-of-range .ensures) ∙ c .if4 .taken)
-
-areas-meet-requires : tie.Need-areas-meet-requires
-areas-meet-requires c κs = search needs
 
 returns-5 : tie.Need-returns-5
 unfolding Launch-promise N parted
@@ -79,9 +70,6 @@ returns-5 c =
 
 is-unfit-requires : tie.Need-is-unfit-requires
 is-unfit-requires c κs = rw (length-pages _ _ (fits (else₂ (else₄ (c .before)) .before))) (in-range _ _ (within (else₄ (c .before))) .0)
-
-same-length : tie.Need-same-length
-same-length c = search needs
 
 returns-6 : tie.Need-returns-6
 unfolding Launch-promise N parted page-at
@@ -101,15 +89,6 @@ make-requires c κs =
     let named = in-range _ _ (within past) in
     record { vmsa = rw pages (named .0); calling = rw pages (named .1); most = rw pages (sizes _ _ right .most); sized = omega (arith, else₂ past .if2 .left) }
 
-same-length-2 : tie.Need-same-length-2
-same-length-2 c = search needs
-
-same-length-3 : tie.Need-same-length-3
-same-length-3 c = search needs
-
-same-length-4 : tie.Need-same-length-4
-same-length-4 c = search needs
-
 returns-7 : tie.Need-returns-7
 unfolding Launch-promise N parted page-at
 returns-7 c =
@@ -128,19 +107,19 @@ pub launch-spec : {M : Type 1} → statement M
 launch-spec =
     tie.close
     (tie.spec
-    fits-requires
+    (λ c κs. search needs)
     returns
     returns-2
     returns-3
-    out-of-range-requires
+    (λ c κs. search needs)
     returns-4
-    areas-meet-requires
+    (λ c κs. search needs)
     returns-5
     is-unfit-requires
-    same-length
+    (λ c. search needs)
     returns-6
     make-requires
-    same-length-2
-    same-length-3
-    same-length-4
+    (λ c. search needs)
+    (λ c. search needs)
+    (λ c. search needs)
     returns-7)

@@ -11,9 +11,6 @@ use Rattle.monitor.proofs.launch.launch_byte.Tie as tie
 outside : (c : tie.Else1) → let a = c .before .before .args in in-monitor (a .plan) (a .p) ≡ false
 outside c = sym (c .before .in-monitor .ensures) ∙ c .if1 .left
 
-in-monitor-requires : tie.Need-in-monitor-requires
-in-monitor-requires c κs = search needs
-
 returns : tie.Need-returns
 unfolding launch-byte
 returns c = rw (← c .before .in-monitor .ensures, c .if1 .taken)
@@ -40,4 +37,4 @@ returns-5 c =
 
 pub launch-byte-spec : {M : Type 1} → statement M
 launch-byte-spec =
-    tie.close (tie.spec in-monitor-requires returns returns-2 returns-3 returns-4 returns-5)
+    tie.close (tie.spec (λ c κs. search needs) returns returns-2 returns-3 returns-4 returns-5)

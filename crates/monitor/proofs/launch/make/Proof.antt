@@ -12,23 +12,11 @@ use Rattle.monitor.proofs.launch.make.Tie as tie
 make-sheet-requires : tie.Need-make-sheet-requires
 make-sheet-requires c κs = let at-known = c .before .before in at-known .before .before .before .pre
 
-make-table-requires : tie.Need-make-table-requires
-make-table-requires c κs = search needs
-
 put-number2-requires : tie.Need-put-number2-requires
 unfolding page-size
 put-number2-requires c κs =
     let at-table = c .before .before .before in let at-known = at-table .before .before in let at-sheet = at-known .before .before in
     let at-slices = at-sheet .before .before .before in record { some = lit< tt; below = at-slices .before .before .before .pre .calling; within = lit≤ tt }
-
-same-length : tie.Need-same-length
-same-length c = search needs
-
-same-length-2 : tie.Need-same-length-2
-same-length-2 c = search needs
-
-same-length-3 : tie.Need-same-length-3
-same-length-3 c = search needs
 
 returns : tie.Need-returns
 unfolding parted made write with-memory N page-at little page-size
@@ -42,9 +30,9 @@ make-spec =
     tie.close
     (tie.spec
     make-sheet-requires
-    make-table-requires
+    (λ c κs. search needs)
     put-number2-requires
-    same-length
-    same-length-2
-    same-length-3
+    (λ c. search needs)
+    (λ c. search needs)
+    (λ c. search needs)
     returns)

@@ -16,9 +16,6 @@ use Rattle.monitor.proofs.launch.make_sheet.Tie as tie
 abbrev start : tie.After-vmpl-of → tie.Start
 start c = c .before .before .before
 
-vmpl-of-requires : tie.Need-vmpl-of-requires
-vmpl-of-requires c κs = search needs
-
 cast-t7 : tie.Need-cast-t7
 unfolding most-pages
 cast-t7 c = let ready = start (c .before) .pre in omega (arith, ready .vmsa, ready .most)
@@ -27,20 +24,11 @@ cast-t8 : tie.Need-cast-t8
 unfolding most-pages
 cast-t8 c = let ready = start (c .before .before) .pre in omega (arith, ready .calling, ready .most)
 
-features-of-requires : tie.Need-features-of-requires
-features-of-requires c κs = search needs
-
-fill-requires : tie.Need-fill-requires
-fill-requires c κs = search needs
-
 put-record-requires : tie.Need-put-record-requires
 unfolding records
 put-record-requires c κs =
     let at-fill = c .before .before .before in let at-features = at-fill .before .before in
     record { sized = at-fill .fill .kept .0 ∙ start (at-features .before .before .before) .pre .sized; below = lit< tt }
-
-same-length : tie.Need-same-length
-same-length c = search needs
 
 returns : tie.Need-returns
 unfolding launch-sheet launch-record records record-size
@@ -54,11 +42,11 @@ pub make-sheet-spec : {M : Type 1} → statement M
 make-sheet-spec =
     tie.close
     (tie.spec
-    vmpl-of-requires
+    (λ c κs. search needs)
     cast-t7
     cast-t8
-    features-of-requires
-    fill-requires
+    (λ c κs. search needs)
+    (λ c κs. search needs)
     put-record-requires
-    same-length
+    (λ c. search needs)
     returns)

@@ -25,9 +25,6 @@ loop-holds : tie.Need-loop-holds Inv-loop μ-loop
 unfolding range
 loop-holds c = (refl, refl, zero-le)
 
-launch-byte-requires : tie.Need-launch-byte-requires Inv-loop μ-loop
-launch-byte-requires c κs = search needs
-
 slice-write-table : tie.Need-slice-write-table Inv-loop μ-loop
 slice-write-table c = omega arith
 
@@ -62,7 +59,7 @@ make-table-spec =
     Inv-loop
     μ-loop
     loop-holds
-    launch-byte-requires
+    (λ c κs. search needs)
     slice-write-table
     add-p
     loop-less

@@ -36,9 +36,6 @@ byte-requires : tie.Need-byte-requires
 unfolding records record-size
 byte-requires c κs = at (record { sized = c .before .before .before .if1 .left; below = c .before .before .if2 .left }) _ _ (lit≤ tt)
 
-same-length : tie.Need-same-length
-same-length c = search needs
-
 returns-4 : tie.Need-returns-4
 unfolding Mark-promise sheet-sized record-size records may-mark is-live fields record-at parted
 returns-4 c =
@@ -49,9 +46,6 @@ returns-4 c =
 put-byte-requires : tie.Need-put-byte-requires
 unfolding records record-size
 put-byte-requires c κs = at (record { sized = else₂ (c .before .before) .before .if1 .left; below = else₂ (c .before .before) .if2 .left }) _ _ (lit≤ tt)
-
-same-length-2 : tie.Need-same-length-2
-same-length-2 c = search needs
 
 returns-5 : tie.Need-returns-5
 unfolding Mark-promise sheet-sized record-size records may-mark is-live fields record-at parted
@@ -71,8 +65,8 @@ mark-spec =
     returns-2
     returns-3
     byte-requires
-    same-length
+    (λ c. search needs)
     returns-4
     put-byte-requires
-    same-length-2
+    (λ c. search needs)
     returns-5)

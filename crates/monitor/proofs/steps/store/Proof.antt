@@ -44,9 +44,6 @@ permitted-told : (c : tie.After-is-permitted)
     → permitted (start₄ (else₄ c) .args .vmpl) (getD (now (start₄ (else₄ c) .args .table)) (start₄ (else₄ c) .args .page) 0) ≡ c .is-permitted .result
 permitted-told c = sym (c .is-permitted .ensures)
 
-fits-requires : tie.Need-fits-requires
-fits-requires c κs = search needs
-
 returns : tie.Need-returns
 unfolding Store-promise memory-sized
 returns c = store-unsized _ _ _ _ _ _ (sym (c .before .fits2 .ensures) ∙ not-true _ (c .if1 .taken))
@@ -67,20 +64,11 @@ returns-4 c =
     let a = start₁ (c .before .before .before) .args in
     store-refused _ _ _ _ _ _ (sized (c .before .before .before)) (rw (lt-ltb _ _ (c .before .before .if2 .left), lt-leb (a .offset + length (now (a .bytes))) page-size (omega arith)))
 
-shared-slice-read-b : tie.Need-shared-slice-read-b
-shared-slice-read-b c = search needs
-
-is-valid-requires : tie.Need-is-valid-requires
-is-valid-requires c κs = search needs
-
 returns-5 : tie.Need-returns-5
 unfolding Store-promise may-store below N table-byte parted
 returns-5 c =
     let past = c .before .before .before in
     store-refused _ _ _ _ _ _ (sized (past .before .before .before)) (rw (lt-ltb _ _ (past .before .before .if2 .left), fits past, ← c .before .is-valid .ensures, not-true (c .before .is-valid .result) (c .if5 .taken)))
-
-is-permitted-requires : tie.Need-is-permitted-requires
-is-permitted-requires c κs = search needs
 
 returns-6 : tie.Need-returns-6
 unfolding Store-promise may-store below N table-byte parted
@@ -93,9 +81,6 @@ unfolding page-size
 put-bytes-requires c κs =
     let past = else₄ (c .before .before) in
     record { some = lit< tt; below = omega (arith, length-pages _ _ (sized (past .before .before .before)), past .before .before .if2 .left); within = omega arith }
-
-same-length : tie.Need-same-length
-same-length c = search needs
 
 returns-7 : tie.Need-returns-7
 unfolding Store-promise may-store below N table-byte parted page-size
@@ -110,16 +95,16 @@ pub store-spec : {M : Type 1} → statement M
 store-spec =
     tie.close
     (tie.spec
-    fits-requires
+    (λ c κs. search needs)
     returns
     returns-2
     returns-3
     returns-4
-    shared-slice-read-b
-    is-valid-requires
+    (λ c. search needs)
+    (λ c κs. search needs)
     returns-5
-    is-permitted-requires
+    (λ c κs. search needs)
     returns-6
     put-bytes-requires
-    same-length
+    (λ c. search needs)
     returns-7)

@@ -5,12 +5,9 @@ use borrow.Author.Needs.{needs}
 use Rattle.pages.proofs.byte.is_free.Statement.{statement}
 use Rattle.pages.proofs.byte.is_free.Tie as tie
 
-owner-of-requires : tie.Need-owner-of-requires
-owner-of-requires c κs = search needs
-
 returns : tie.Need-returns
 unfolding is-free
 returns c = rw (c .owner-of .ensures)
 
 pub is-free-spec : {M : Type 1} → statement M
-is-free-spec = tie.close (tie.spec owner-of-requires returns)
+is-free-spec = tie.close (tie.spec (λ c κs. search needs) returns)

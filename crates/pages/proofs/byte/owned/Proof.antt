@@ -5,15 +5,9 @@ use borrow.Author.Needs.{needs}
 use Rattle.pages.proofs.byte.owned.Statement.{statement}
 use Rattle.pages.proofs.byte.owned.Tie as tie
 
-mul-result : tie.Need-mul-result
-mul-result c = search needs
-
-add-result : tie.Need-add-result
-add-result c = search needs
-
 returns : tie.Need-returns
 unfolding own
 returns c = search needs
 
 pub owned-spec : {M : Type 1} → statement M
-owned-spec = tie.close (tie.spec mul-result add-result returns)
+owned-spec = tie.close (tie.spec (λ c. search needs) (λ c. search needs) returns)

@@ -16,12 +16,9 @@ use Rattle.pages.proofs.byte.valid_bit.Tie as tie
 as-test : (x : ℕ) → x < 2 → x ≡ cond (eqb x 1) 1 0
 as-test x h = by-test (eqb x 1) (λ t. rw t (eqb-true x 1 t)) (λ t. rw t (omega (arith, eqb-false x 1 t)))
 
-cast-result : tie.Need-cast-result
-cast-result c = search needs
-
 returns : tie.Need-returns
 unfolding valid bit
 returns c = as-test (c .args .b / 8 % 2) (omega arith)
 
 pub valid-bit-spec : {M : Type 1} → statement M
-valid-bit-spec = tie.close (tie.spec cast-result returns)
+valid-bit-spec = tie.close (tie.spec (λ c. search needs) returns)

@@ -22,31 +22,19 @@ add-end : tie.Need-add-end
 unfolding page-size
 add-end c = omega (arith, page-ends (now (c .before .args .memory)) (c .before .args .page) (c .before .pre))
 
-sub-fill : tie.Need-sub-fill
-sub-fill c = search needs
-
-part-fill-start : tie.Need-part-fill-start
-part-fill-start c = search needs
-
 part-fill-end : tie.Need-part-fill-end
 unfolding page-size
 part-fill-end c = omega (arith, page-ends (now (c .before .args .memory)) (c .before .args .page) (c .before .pre))
 
-fill-requires : tie.Need-fill-requires
-fill-requires c κs = search needs
-
-same-length : tie.Need-same-length
-same-length c = search needs
-
 returns : tie.Need-returns
 unfolding page-size
 returns c =
-    let start = c .before .before .before .before .before in
+    let at-fill = c .before .before in let start = at-fill .before .before .before in
     let memory = now (start .args .memory) in
     let page = start .args .page in
     let ends = page-ends memory page (start .pre) in
     let size : page-size * page + page-size - page-size * page ≡ page-size = omega arith in
-    let filled = c .before .before .fill .ensures ∙ ap zeros (mid-len (page-size * page) (page-size * page + page-size) memory ends ∙ size) in
+    let filled = at-fill .fill .ensures ∙ ap zeros (mid-len (page-size * page) (page-size * page + page-size) memory ends ∙ size) in
     rw (filled, size) (parts-put page-size memory page (zeros page-size) positive (start .pre) (length-zeros page-size))
 
 pub fill-page-spec : {M : Type 1} → statement M
@@ -55,9 +43,9 @@ fill-page-spec =
     (tie.spec
     mul-start
     add-end
-    sub-fill
-    part-fill-start
+    (λ c. search needs)
+    (λ c. search needs)
     part-fill-end
-    fill-requires
-    same-length
+    (λ c κs. search needs)
+    (λ c. search needs)
     returns)

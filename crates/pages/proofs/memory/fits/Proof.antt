@@ -15,12 +15,9 @@ returns-2 : tie.Need-returns-2
 unfolding memory-fits between least-pages most-pages
 returns-2 c = rw (le-leb _ _ (c .before .if1 .left), lt-leb _ _ (c .if2 .taken))
 
-mul-result : tie.Need-mul-result
-mul-result c = search needs
-
 returns-3 : tie.Need-returns-3
 unfolding memory-fits between least-pages most-pages page-size
 returns-3 c = rw (le-leb _ _ (c .before .if1 .left), le-leb _ _ (c .if2 .left))
 
 pub fits-spec : {M : Type 1} → statement M
-fits-spec = tie.close (tie.spec returns returns-2 mul-result returns-3)
+fits-spec = tie.close (tie.spec returns returns-2 (λ c. search needs) returns-3)

@@ -32,12 +32,6 @@ loop-holds c = (refl, zero-le)
 shared-slice-read-is-free : tie.Need-shared-slice-read-is-free Inv-loop μ-loop
 shared-slice-read-is-free c = omega arith
 
-is-free-requires : tie.Need-is-free-requires Inv-loop μ-loop
-is-free-requires c κs = search needs
-
-either-requires : tie.Need-either-requires Inv-loop μ-loop
-either-requires c κs = search needs
-
 add-p : tie.Need-add-p Inv-loop μ-loop
 add-p c = omega arith
 
@@ -47,8 +41,8 @@ loop-less c = omega arith
 loop-again : tie.Need-loop-again Inv-loop μ-loop
 unfolding exists
 loop-again c =
-    let l = c .before .before .before .before .loop in
-    let table = now (c .before .before .before .before .before .before .args .table) in
+    let at-is-free = c .before in let at-loop = at-is-free .before .before .before in let l = at-loop .loop in
+    let table = now (at-loop .before .before .args .table) in
     let more : exists is-free (take (suc (l .p)) table) ≡ (exists is-free (take (l .p) table) || is-free (getD table (l .p) 0)) =
     ap (exists is-free) (take-suc table (l .p) 0 (omega arith)) ∙ exists-append is-free (take (l .p) table) _ ∙ rw (or-none (is-free (getD table (l .p) 0))) in
     let told = ap (λ (passed : Bool). passed || c .before .is-free .result) (l .inv .0) in
@@ -63,4 +57,4 @@ returns c =
 pub any-free-spec : {M : Type 1} → statement M
 any-free-spec =
     tie.close
-    (tie.spec Inv-loop μ-loop loop-holds shared-slice-read-is-free is-free-requires either-requires add-p loop-less loop-again returns)
+    (tie.spec Inv-loop μ-loop loop-holds shared-slice-read-is-free (λ c κs. search needs) (λ c κs. search needs) add-p loop-less loop-again returns)

@@ -25,13 +25,10 @@ loop-holds c = (zero-le, below-none (λ j. is-free (getD (now (c .before .args .
 shared-slice-read-is-free : tie.Need-shared-slice-read-is-free Inv-loop μ-loop
 shared-slice-read-is-free c = omega arith
 
-is-free-requires : tie.Need-is-free-requires Inv-loop μ-loop
-is-free-requires c κs = search needs
-
 returns : tie.Need-returns Inv-loop μ-loop
 returns c =
-    let l = c .before .before .before .before .loop in
-    let table = now (c .before .before .before .before .before .before .args .table) in
+    let at-is-free = c .before in let at-loop = at-is-free .before .before .before in let l = at-loop .loop in
+    let table = now (at-loop .before .before .args .table) in
     sym (lowest-is is-free table (l .p) 0 (sym (c .before .is-free .ensures) ∙ c .if1 .taken) (l .inv .1))
 
 add-p : tie.Need-add-p Inv-loop μ-loop
@@ -42,8 +39,8 @@ loop-less c = omega arith
 
 loop-again : tie.Need-loop-again Inv-loop μ-loop
 loop-again c =
-    let l = c .before .before .before .before .loop in
-    let table = now (c .before .before .before .before .before .before .args .table) in
+    let at-is-free = c .before in let at-loop = at-is-free .before .before .before in let l = at-loop .loop in
+    let table = now (at-loop .before .before .args .table) in
     (omega arith, below-more (λ j. is-free (getD table j 0) ≡ false) (l .p) (l .inv .1) (sym (c .before .is-free .ensures) ∙ c .if1 .left))
 
 returns-2 : tie.Need-returns-2 Inv-loop μ-loop
@@ -61,7 +58,7 @@ lowest-free-spec =
     μ-loop
     loop-holds
     shared-slice-read-is-free
-    is-free-requires
+    (λ c κs. search needs)
     returns
     add-p
     loop-less

@@ -10,16 +10,10 @@ returns : tie.Need-returns
 unfolding usable below N table-byte
 returns c = rw (le-ltb _ _ (c .if1 .taken))
 
-shared-slice-read-is-valid : tie.Need-shared-slice-read-is-valid
-shared-slice-read-is-valid c = search needs
-
-is-valid-requires : tie.Need-is-valid-requires
-is-valid-requires c κs = search needs
-
 returns-2 : tie.Need-returns-2
 unfolding usable below N table-byte
 returns-2 c = rw (lt-ltb _ _ (c .before .before .if1 .left), ← c .is-valid .ensures)
 
 pub is-usable-spec : {M : Type 1} → statement M
 is-usable-spec =
-    tie.close (tie.spec returns shared-slice-read-is-valid is-valid-requires returns-2)
+    tie.close (tie.spec returns (λ c. search needs) (λ c κs. search needs) returns-2)

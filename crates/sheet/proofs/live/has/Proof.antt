@@ -21,12 +21,9 @@ number4-requires : tie.Need-number4-requires
 unfolding record-size
 number4-requires c κs = let at-start = c .before .before .before in at (at-start .pre .0) _ _ (at-start .pre .1)
 
-cast-held : tie.Need-cast-held
-cast-held c = search needs
-
 returns-2 : tie.Need-returns-2
 unfolding live-with is-live fields record-size
 returns-2 c = rw (← c .before .before .byte .ensures, eq-eqb _ 1 (c .before .if1 .left), ← c .number4 .ensures)
 
 pub has-spec : {M : Type 1} → statement M
-has-spec = tie.close (tie.spec byte-requires returns number4-requires cast-held returns-2)
+has-spec = tie.close (tie.spec byte-requires returns number4-requires (λ c. search needs) returns-2)

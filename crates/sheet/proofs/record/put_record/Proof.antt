@@ -30,23 +30,11 @@ put2 c = let at-known = c .before .before in at-known .before .before
 abbrev put3 : tie.After-put-number8-arg4 → tie.After-put-number83
 put3 c = c .before .before .before
 
-join4-requires : tie.Need-join4-requires
-join4-requires c κs = search needs
-
-join8-requires : tie.Need-join8-requires
-join8-requires c κs = search needs
-
 put-number8-requires : tie.Need-put-number8-requires
 put-number8-requires c κs = at (start c .pre) _ _ (lit≤ tt)
 
-join8-requires-2 : tie.Need-join8-requires-2
-join8-requires-2 c κs = search needs
-
 put-number8-requires-2 : tie.Need-put-number8-requires-2
 put-number8-requires-2 c κs = let at-1 = put1 c in at (still (at-1 .put-number8 .kept .0) (start (at-1 .before) .pre)) _ _ (lit≤ tt)
-
-join8-requires-3 : tie.Need-join8-requires-3
-join8-requires-3 c κs = search needs
 
 put-number8-requires-3 : tie.Need-put-number8-requires-3
 put-number8-requires-3 c κs =
@@ -57,9 +45,6 @@ put-number8-requires-4 : tie.Need-put-number8-requires-4
 put-number8-requires-4 c κs =
     let at-3 = put3 c in let at-2 = put2 (at-3 .before) in let at-1 = put1 (at-2 .before) in
     at (still (at-3 .put-number83 .kept .0 ∙ at-2 .put-number82 .kept .0 ∙ at-1 .put-number8 .kept .0) (start (at-1 .before) .pre)) _ _ (lit≤ tt)
-
-same-length : tie.Need-same-length
-same-length c = search needs
 
 returns : tie.Need-returns
 unfolding record-size records
@@ -76,13 +61,13 @@ pub put-record-spec : {M : Type 1} → statement M
 put-record-spec =
     tie.close
     (tie.spec
-    join4-requires
-    join8-requires
+    (λ c κs. search needs)
+    (λ c κs. search needs)
     put-number8-requires
-    join8-requires-2
+    (λ c κs. search needs)
     put-number8-requires-2
-    join8-requires-3
+    (λ c κs. search needs)
     put-number8-requires-3
     put-number8-requires-4
-    same-length
+    (λ c. search needs)
     returns)

@@ -59,18 +59,12 @@ returns-2 c = rw (← c .before .before .byte .ensures, le-leb 1 _ (c .before .i
 number4-requires : tie.Need-number4-requires
 number4-requires c κs = at (start c .pre) _ _ (lit≤ tt)
 
-cast-vmsa : tie.Need-cast-vmsa
-cast-vmsa c = search needs
-
 returns-3 : tie.Need-returns-3
 unfolding bad-names fields record-size
 returns-3 c = rw (good-vmpl (c .before .before), ← c .before .number4 .ensures, le-leb _ _ (c .if3 .taken))
 
 number4-requires-2 : tie.Need-number4-requires-2
 number4-requires-2 c κs = at (start (else2 c) .pre) _ _ (lit≤ tt)
-
-cast-calling : tie.Need-cast-calling
-cast-calling c = search needs
 
 returns-4 : tie.Need-returns-4
 unfolding bad-names fields record-size
@@ -86,9 +80,6 @@ returns-5 c = rw (good-calling (c .before .before), ← c .before .byte2 .ensure
 number4-requires-3 : tie.Need-number4-requires-3
 number4-requires-3 c κs = at (start (else2 (else3 (c .before .before))) .pre) _ _ (lit≤ tt)
 
-cast-pool-page : tie.Need-cast-pool-page
-cast-pool-page c = search needs
-
 returns-6 : tie.Need-returns-6
 unfolding bad-names holds fields record-size
 returns-6 c =
@@ -103,13 +94,13 @@ bad-names-spec =
     returns
     returns-2
     number4-requires
-    cast-vmsa
+    (λ c. search needs)
     returns-3
     number4-requires-2
-    cast-calling
+    (λ c. search needs)
     returns-4
     byte-requires-2
     returns-5
     number4-requires-3
-    cast-pool-page
+    (λ c. search needs)
     returns-6)

@@ -66,9 +66,6 @@ returns-4 c =
     let at-else1 = else1 (else2 (c .before)) in
     rw (good-bytes (c .before), ← at-else1 .before .byte .ensures, ne-eqb _ 1 (c .if4 .taken))
 
-bad-names-requires : tie.Need-bad-names-requires
-bad-names-requires c κs = search needs
-
 returns-5 : tie.Need-returns-5
 unfolding bad-record is-live fields record-size
 returns-5 c =
@@ -86,5 +83,5 @@ bad-record-spec =
     byte-requires-3
     returns-3
     returns-4
-    bad-names-requires
+    (λ c κs. search needs)
     returns-5)

@@ -32,9 +32,6 @@ returns-3 c =
     let at-else2 = c .before .before in let at-byte = at-else2 .before in
     rw (lt-leb records _ (at-byte .before .if1 .left), ← at-byte .byte .ensures, eq-eqb _ 1 (at-else2 .if2 .left), ← c .before .byte2 .ensures, ne-eqb _ 1 (c .if3 .taken))
 
-any-bad-requires : tie.Need-any-bad-requires
-any-bad-requires c κs = search needs
-
 returns-4 : tie.Need-returns-4
 unfolding bad-sheet is-live fields records record-size
 returns-4 c =
@@ -45,4 +42,4 @@ returns-4 c =
 pub bad-sheet-spec : {M : Type 1} → statement M
 bad-sheet-spec =
     tie.close
-    (tie.spec returns byte-requires returns-2 byte-requires-2 returns-3 any-bad-requires returns-4)
+    (tie.spec returns byte-requires returns-2 byte-requires-2 returns-3 (λ c κs. search needs) returns-4)
