@@ -18,7 +18,7 @@ use Rattle.laws.specs.Alone.{table-alone}
 use Rattle.laws.proofs.Usable.{usable-alone, usable→}
 use Rattle.laws.proofs.Ranges.{exists-lowest, or-false}
 use Rattle.sheet.specs.Row.{row}
-use Rattle.sheet.proofs.Caller.{vmpl-is}
+use Rattle.laws.proofs.Tested.{vmpl-is}
 
 -- what the code asks of the pages and of the vCPU, for a caller of this VMPL, and at last: each asks for what its test looks at
 abbrev pub of-pages : ℕ → ℕ → ℕ → Asked

@@ -1,4 +1,5 @@
--- Laws of the test of a page that an entry covers, and of a usable page below N: what they come to on the table. No other proof opens them.
+-- Laws of the test of a page that an entry covers, and of a usable page below N: what they come to on the table. No other proof of the code opens them. They are
+-- here and not in `laws`, which has to hold where a wrong rule is tried on `safety`.
 -- Assumes nothing.
 use mathlib.Core.Path.{_≡_}
 use mathlib.Core.Bool.{true, not, _&&_, false≢true}

@@ -1,5 +1,5 @@
 -- Laws about what the tests of outcome 3 have shown of a machine, once they are passed.
-use mathlib.Core.Path.{_≡_, _∙_}
+use mathlib.Core.Path.{_≡_, sym, _∙_}
 use mathlib.Core.Bool.{true, false, not, _&&_, _||_, and-eq-true-iff}
 use mathlib.Core.List.{List, []}
 use Prim.Native.Nat.{ℕ, _*_, _<_}
@@ -8,7 +8,7 @@ use lib.Dec.{leb, ltb}
 use lib.ListN.{length, getD}
 use borrow.Author.Tests.{leb-true, leb-false, not-false}
 use Rattle.rules.specs.Words.{between, exists, page-size, records, record-size}
-use Rattle.rules.specs.Machine.{fields, is-live, holds, N}
+use Rattle.rules.specs.Machine.{fields, is-live, holds, N, record-at, vcpu}
 use Rattle.rules.specs.Sound.{bad-names, bad-record}
 use Rattle.rules.specs.Call.{bad-sheet, bad-machine}
 use Rattle.rules.specs.Flat.{Buffers, parts, parted, memory-sized, sheet-sized, well-sized}
@@ -38,6 +38,11 @@ pub names : (n : ℕ) (r : List ℕ) → bad-record n r ≡ false → is-live r 
 unfolding bad-record
 names n r e live =
     named n r (rw live at (or-false (ltb 1 (fields r .live) || ltb 1 (fields r .running) || ltb 1 (fields r .holding)) (is-live r && bad-names n r) e .1))
+
+-- the caller's VMPL, as its byte is read
+pub vmpl-is : (caller : ℕ) (b : Buffers) (v : ℕ) → v ≡ getD (getD (parts record-size (b .sheet)) caller []) 1 0 → vcpu (parted b) caller .vmpl ≡ v
+unfolding vcpu record-at fields parted
+vmpl-is caller b v e = sym e
 
 module _ (b : Buffers) (caller : ℕ) (t : Tested b caller) where
   sizes-both : (memory-sized (b .table) (b .memory) ≡ true) × (sheet-sized (b .sheet) ≡ true)

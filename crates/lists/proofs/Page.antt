@@ -4,19 +4,18 @@ use mathlib.Core.Path.{_≡_, sym, _∙_}
 use mathlib.Core.Bool.{Bool, false, not, _&&_, _||_}
 use mathlib.Core.List.{[]}
 use Prim.Native.Nat.{ℕ, _<_}
-use lib.Dec.{eqb, lit<, lit≤}
+use lib.Dec.{eqb}
 use lib.ListN.{length, getD}
 use borrow.Author.Tests.{not-false}
 use Rattle.rules.specs.Words.{page-size, record-size}
-use Rattle.rules.specs.Machine.{Lent, N, page-of, offset-of, table-byte, plain, calling-area, owned-by, usable, vcpu, record-at, fields}
+use Rattle.rules.specs.Machine.{Lent, N, page-of, offset-of, table-byte, plain, calling-area, owned-by, usable, vcpu}
 use Rattle.rules.specs.Lists.{bad-list-page}
 use Rattle.rules.specs.Flat.{Buffers, parts, parted}
 use Rattle.laws.specs.Alone.{table-alone}
 use Rattle.laws.specs.Tested.{Tested}
-use Rattle.laws.proofs.Tested.{pages-tested, rows-tested, caller-below}
+use Rattle.laws.proofs.Tested.{vmpl-is, pages-tested}
 use Rattle.laws.proofs.Usable.{usable-alone, usable→}
 use Rattle.laws.proofs.Ranges.{or-false}
-use Rattle.parts.specs.Place.{Place}
 
 module _ (vmpl rcx : ℕ) (m : Lent) where
   -- the test of a list's page looks at the table alone
@@ -34,24 +33,14 @@ module _ (vmpl rcx : ℕ) (m : Lent) where
       let outer = or-false (unusable || strange) (owned-by calling-area m p && eqb (offset-of rcx) 0) e in
       usable→ vmpl m p (not-false _ (or-false unusable strange (outer .0) .0)) .0
 
-module _ (caller : ℕ) (b : Buffers) where
-  -- the caller's VMPL: where it stands, and what it is as its byte is read
-  pub vmpl-place : Tested b caller → Place (b .sheet) record-size caller 1 1
-  unfolding record-size
-  vmpl-place t = record { some = lit< tt; below = rw (rows-tested b caller t) (caller-below b caller t); within = lit≤ tt }
+module _ (caller rcx : ℕ) (b : Buffers) (v : ℕ) where
+  -- the test of the list's page, as it is made on the table
+  pub page-told : (r : Bool) → v ≡ getD (getD (parts record-size (b .sheet)) caller []) 1 0
+      → r ≡ bad-list-page v rcx (table-alone (b .table)) → bad-list-page (vcpu (parted b) caller .vmpl) rcx (parted b) ≡ r
+  unfolding parted
+  page-told r e f = rw (vmpl-is caller b v e) (list-page-table v rcx (parted b) ∙ sym f)
 
-  pub vmpl-is : (v : ℕ) → v ≡ getD (getD (parts record-size (b .sheet)) caller []) 1 0 → vcpu (parted b) caller .vmpl ≡ v
-  unfolding vcpu record-at fields parted
-  vmpl-is v e = sym e
-
-  module _ (rcx : ℕ) where
-    -- the test of the list's page, as it is made on the table
-    pub page-told : (v : ℕ) (r : Bool) → v ≡ getD (getD (parts record-size (b .sheet)) caller []) 1 0
-        → r ≡ bad-list-page v rcx (table-alone (b .table)) → bad-list-page (vcpu (parted b) caller .vmpl) rcx (parted b) ≡ r
-    unfolding parted
-    page-told v r e f = rw (vmpl-is v e) (list-page-table v rcx (parted b) ∙ sym f)
-
-    -- a list's page that passes it is a page of a tested machine's memory
-    pub page-within : (v : ℕ) → Tested b caller → bad-list-page v rcx (parted b) ≡ false → page-of rcx < length (parts page-size (b .memory))
-    unfolding parted N
-    page-within v t e = rw (pages-tested b caller t) (list-page-below v rcx (parted b) e)
+  -- a list's page that passes it is a page of a tested machine's memory
+  pub page-within : Tested b caller → bad-list-page v rcx (parted b) ≡ false → page-of rcx < length (parts page-size (b .memory))
+  unfolding parted N
+  page-within t e = rw (pages-tested b caller t) (list-page-below v rcx (parted b) e)

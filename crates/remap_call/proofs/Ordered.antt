@@ -16,7 +16,7 @@ use Rattle.rules.specs.Flat.{Buffers, parted}
 use Rattle.laws.specs.Alone.{table-alone}
 use Rattle.laws.proofs.Usable.{usable-alone}
 use Rattle.sheet.specs.Row.{row}
-use Rattle.sheet.proofs.Caller.{vmpl-is}
+use Rattle.laws.proofs.Tested.{vmpl-is}
 
 -- the page is neither plain nor the caller's own calling page
 abbrev pub foreign : List ℕ → ℕ → ℕ → Bool

@@ -5,7 +5,7 @@ use mathlib.Core.Bool.{true, false}
 use Prim.Native.Nat.{_+_, _*_, _<_}
 use native.Mathlib.Omega.{arith}
 use borrow.Author.Tests.{lt-leb, le-leb, lt-ltb, le-ltb, eq-eqb, ne-eqb}
-use lib.Dec.{lit<}
+use lib.Dec.{lit<, lit≤}
 use lib.ListN.{length}
 use denote.Ref.{now}
 use Rattle.rules.specs.Words.{multiple, page-size, record-size, entries-a-call}
@@ -14,7 +14,9 @@ use Rattle.rules.specs.Machine.{Lent, vcpu, page-of, offset-of}
 use Rattle.rules.specs.Lists.{bad-list-page, list-count, list-next, bad-count, bad-next, run-within, list-call}
 use Rattle.rules.specs.Flat.{Buffers, buffers, parts, parted}
 use Rattle.laws.proofs.Tested.{pages-tested}
-use Rattle.lists.proofs.Page.{vmpl-place, page-told, page-within}
+use Rattle.lists.proofs.Page.{page-told, page-within}
+use Rattle.sheet.proofs.At.{at}
+use Rattle.sheet.proofs.Caller.{caller-row}
 use Rattle.list_calls.proofs.Entries.{count-is, next-is}
 use borrow.Author.Needs.{needs}
 use Rattle.list_calls.proofs.list_call.Statement.{statement}
@@ -50,10 +52,10 @@ aligned c = eq-eqb _ 0 (c .before .before .before .if1 .left)
 page-is : (c : tie.After-bad-list-page)
     → bad-list-page (vcpu (lent (start c)) (start c .args .caller) .vmpl) (start c .args .rcx) (lent (start c)) ≡ c .bad-list-page .result
 unfolding record-size
-page-is c = page-told (start c .args .caller) (given (start c)) (start c .args .rcx) _ _ (c .before .before .byte .ensures) (c .bad-list-page .ensures)
+page-is c = page-told (start c .args .caller) (start c .args .rcx) (given (start c)) _ _ (c .before .before .byte .ensures) (c .bad-list-page .ensures)
 
 page-inside : (c : tie.Else2) → page-of (start (c .before) .args .rcx) < length (parts page-size (given (start (c .before)) .memory))
-page-inside c = page-within _ (given (start (c .before))) _ _ (start (c .before) .pre) (page-is (c .before) ∙ c .if2 .left)
+page-inside c = page-within _ _ (given (start (c .before))) _ (start (c .before) .pre) (page-is (c .before) ∙ c .if2 .left)
 
 count-told : (c : tie.After-number2) → list-count (start-of c .args .rcx) (lent (start-of c)) ≡ c .number2 .result
 unfolding page-of offset-of page-size
@@ -75,7 +77,7 @@ returns c = rw (ne-eqb _ 0 (c .if1 .taken))
 
 byte-requires : tie.Need-byte-requires
 unfolding record-size
-byte-requires c κs = let known = c .before in vmpl-place _ _ (known .before .before .before .pre)
+byte-requires c κs = let known = c .before in at (caller-row (known .before .before .before .pre)) _ _ (lit≤ tt)
 
 returns-2 : tie.Need-returns-2
 unfolding list-call refuse

@@ -5,6 +5,7 @@ use mathlib.Core.Path.{_≡_, refl, sym, _∙_, ap}
 use Prim.Native.Nat.{ℕ, _+_, _-_, _≤_}
 use native.Mathlib.Omega.{arith}
 use native.Mathlib.Numerals.{add-one}
+use lib.Dec.{lit≤}
 use lib.ListN.{length}
 use denote.Ref.{now}
 use borrow.Author.Needs.{needs}
@@ -15,8 +16,9 @@ use Rattle.rules.specs.Lists.{list-entry}
 use Rattle.rules.specs.Lists
 use Rattle.rules.specs.Flat.{Buffers, buffers, parts, parted, memory-sized}
 use Rattle.laws.proofs.FlatSteps.{sizes}
-use Rattle.laws.proofs.Tested.{pages-tested, memory-tested}
-use Rattle.lists.proofs.Page.{vmpl-place, vmpl-is}
+use Rattle.laws.proofs.Tested.{vmpl-is, pages-tested, memory-tested}
+use Rattle.sheet.proofs.At.{at}
+use Rattle.sheet.proofs.Caller.{caller-row}
 use Rattle.effects.proofs.Laws.{all-after}
 use Rattle.list_calls.specs.Listed.{Listed}
 use Rattle.list_calls.proofs.Entries.{run-on, run-refused, reads-within, still-tested, in-page, entry-is, stored-is}
@@ -63,7 +65,7 @@ entry-told c = let at-loop = c .before .before .before in entry-is (kept at-loop
 
 byte-requires : tie.Need-byte-requires Inv-loop μ-loop
 unfolding record-size
-byte-requires c κs = vmpl-place _ _ (c .before .before .before .pre .tested)
+byte-requires c κs = at (caller-row (c .before .before .before .pre .tested)) _ _ (lit≤ tt)
 
 add-end : tie.Need-add-end Inv-loop μ-loop
 unfolding page-size

@@ -5,7 +5,7 @@ use mathlib.Core.Bool.{false, not, _||_}
 use Prim.Native.Nat.{_-_, _/_, _<_}
 use native.Mathlib.Omega.{arith}
 use borrow.Author.Tests.{eq-eqb, ne-eqb}
-use lib.Dec.{eqb, lit<}
+use lib.Dec.{eqb, lit<, lit≤}
 use lib.ListN.{length}
 use denote.Ref.{now}
 use Rattle.rules.specs.Words.{page-size, record-size, multiple, places}
@@ -16,8 +16,10 @@ use Rattle.rules.specs.Lists.{bad-list-page}
 use Rattle.rules.specs.Calls.{is-free, withdraw}
 use Rattle.rules.specs.Flat.{Buffers, buffers, parts, parted, memory-sized}
 use Rattle.laws.proofs.FlatSteps.{sizes}
-use Rattle.laws.proofs.Tested.{memory-tested}
-use Rattle.lists.proofs.Page.{vmpl-place, vmpl-is, page-told, page-within}
+use Rattle.laws.proofs.Tested.{vmpl-is, memory-tested}
+use Rattle.lists.proofs.Page.{page-told, page-within}
+use Rattle.sheet.proofs.At.{at}
+use Rattle.sheet.proofs.Caller.{caller-row}
 use Rattle.laws.proofs.Parts.{same-parts}
 use Rattle.withdraw_call.proofs.Giving.{take-most, withdrawn-is}
 use borrow.Author.Needs.{needs}
@@ -51,10 +53,10 @@ good-head c = rw (eq-eqb _ _ (c .before .if1 .left), ne-eqb _ _ (c .if2 .left))
 page-is : (c : tie.After-bad-list-page) → let s : tie.Start = start (headed c) in
     bad-list-page (vcpu (parted (given s)) (s .args .caller) .vmpl) (s .args .rcx) (parted (given s)) ≡ c .bad-list-page .result
 unfolding record-size
-page-is c = let s = start (headed c) in page-told (s .args .caller) (given s) (s .args .rcx) _ _ (c .before .before .byte .ensures) (c .bad-list-page .ensures)
+page-is c = let s = start (headed c) in page-told (s .args .caller) (s .args .rcx) (given s) _ _ (c .before .before .byte .ensures) (c .bad-list-page .ensures)
 
 page-inside : (c : tie.Else3) → page-of (start₃ c .args .rcx) < length (parts page-size (now (start₃ c .args .memory)))
-page-inside c = page-within _ (given (start₃ c)) _ _ (start₃ c .pre) (page-is (c .before) ∙ c .if3 .left)
+page-inside c = page-within _ _ (given (start₃ c)) _ (start₃ c .pre) (page-is (c .before) ∙ c .if3 .left)
 
 returns : tie.Need-returns
 unfolding withdraw refuse multiple
@@ -66,7 +68,7 @@ returns-2 c = rw (eq-eqb _ _ (c .before .if1 .left), eq-eqb _ _ (c .if2 .taken))
 
 byte-requires : tie.Need-byte-requires
 unfolding record-size
-byte-requires c κs = vmpl-place _ _ (start c .pre)
+byte-requires c κs = at (caller-row (start c .pre)) _ _ (lit≤ tt)
 
 returns-3 : tie.Need-returns-3
 unfolding withdraw refuse
