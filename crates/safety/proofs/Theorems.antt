@@ -2,6 +2,7 @@
 use mathlib.Core.Path.{_≡_}
 use mathlib.Core.Bool.{true}
 use Prim.Native.Nat.{ℕ, _<_}
+use native.Mathlib.Omega.{arith}
 use Rattle.rules.specs.Words.{records, entries-a-call}
 use Rattle.rules.specs.Machine.{Lent, is-live, record-at}
 use Rattle.rules.specs.Runs.{run-steps}
@@ -105,7 +106,7 @@ counted-from-launch = counted-from-launch-by stays-sound launched-sound
 -- 5
 pub at-most : At-most
 unfolding At-most Stays-sound
-at-most ss m e = InUse.at-most (run-steps ss m .lent) (stays-sound ss m e)
+at-most ss m e = omega (arith, InUse.at-most (run-steps ss m .lent) (stays-sound ss m e))
 
 -- 6
 pub all-come-back : All-come-back

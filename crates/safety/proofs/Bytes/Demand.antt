@@ -102,7 +102,7 @@ module _ (parts : Parts) where
           sealed = sealed-now (parted (acts done start)) (now .1);
           kept = λ next. kept-by next (acts done start) (go .stays-sound);
           counted = rw (go .reached) (omega (arith, go .given, go .taken, empty, parts .run-counted (map meant done) (machine start) (sound-both start e .1)));
-          at-most = at-most (parted (acts done start)) (now .1);
+          at-most = omega (arith, at-most (parted (acts done start)) (now .1));
           come-back = λ others. come-back others (acts done start) (go .stays-sound);
         }
 
