@@ -17,6 +17,7 @@ use Rattle.rules.specs.Words.{bit, range, every}
 use Rattle.rules.specs.Machine.{Lent, N, below, page-of, page-at, with-memory, write, owner, valid, table-byte, owned-by, usable, record-at, vcpu}
 use Rattle.rules.specs.Lists.{in-list, list-count, list-entry, store-index, entry-first, entry-pages, covered, malformed, coverable}
 use Rattle.rules.specs.Lists.{read-covered, read-entry, carry-out, carry-out-all, after-entry, run, run-within}
+use Rattle.laws.proofs.Usable.{usable→}
 use Rattle.laws.proofs.Ranges.{by-test, every-range→}
 use Rattle.safety.proofs.Small.{not-among}
 use Rattle.safety.proofs.Effects.{entry-sheet}
@@ -83,8 +84,8 @@ fits-validity true b e = rw e
 fits-validity false b e = rw e
 
 fits-pool : (vmpl : ℕ) (m : Lent) (p : ℕ) → owner (table-byte m p) ≡ 0 → usable vmpl m p ≡ true → fits Pool (table-byte m p) ≡ true
-unfolding fits usable
-fits-pool vmpl m p e u = rw (e, and-eq-true-iff (below m p) (valid (table-byte m p)) .0 u .1)
+unfolding fits
+fits-pool vmpl m p e u = rw (e, usable→ vmpl m p u .1)
 
 -- its range, its wish, and that each page of the range which is plain is fit for the wish
 range-read : (call : ListCall) (vmpl e first n : ℕ) (wish : Wish) (m : Lent) → read-covered call vmpl e m ≡ Reads first n wish
