@@ -1,99 +1,51 @@
-// The trial: a night on sixteen pages, which walks the rows of document 01 in their order. Each step has what is asked, what the paper says comes of it,
-// and what came of it; the last line counts the steps that came out as the paper says. It promises nothing of its own but the marks of its map; what it
-// writes is held to the file stdout beside src. Nothing is assumed but what the C library's write does.
+// The trial: a night on sixteen pages, which walks the rows of document 01 in their order by the script that it reads, the file stdin beside src. Each
+// step has what is asked, what the paper says comes of it, and what came of it; the last line counts the steps that came out as the paper says. It promises
+// nothing of its own but the marks of its map; what it writes is held to the file stdout beside src. Nothing is assumed but what the C library's read and
+// write do.
 mod guest;
 mod line;
-mod night;
 mod show;
 
-use guest::Ask;
-use rules::Plan;
+use libc::STDIN_FILENO;
 use show::Tally;
 
-fn launch(
+// What a line of the script does to the machine. A launch and a call put their answer in the line that is found.
+fn act(
+    found: &mut [u8; 128],
     memory: &mut [u8; 65536],
     table: &mut [u8; 16],
     sheet: &mut [u8; 512],
-    tally: Tally,
     text: &[u8],
-) -> Tally {
-    let plan = Plan {
-        first: line::field(text, 0) as usize,
-        count: line::field(text, 1) as usize,
-        vmsa: line::field(text, 2) as usize,
-        calling: line::field(text, 3) as usize,
-        apic: line::field(text, 4) as u32,
-        valid: line::field(text, 5) as usize,
-    };
-    let mut found = [b' '; 128];
-    let to = guest::launch(&mut found, memory, table, sheet, plan);
-    show::verdict(tally, line::after(text, 37), &found, to)
-}
-
-fn call(
-    memory: &mut [u8; 65536],
-    table: &mut [u8; 16],
-    sheet: &mut [u8; 512],
-    tally: Tally,
-    text: &[u8],
-) -> Tally {
-    let ask = Ask {
-        call: line::field(text, 0),
-        rcx: line::field(text, 1),
-        rdx: line::field(text, 2),
-        r8: line::field(text, 3),
-        caller: line::field(text, 4),
-        look: line::field(text, 5),
-    };
-    let mut found = [b' '; 128];
-    let to = guest::call(&mut found, memory, table, sheet, ask);
-    show::verdict(tally, line::after(text, 37), &found, to)
-}
-
-// One line of the script.
-fn step(
-    memory: &mut [u8; 65536],
-    table: &mut [u8; 16],
-    sheet: &mut [u8; 512],
-    tally: Tally,
-    text: &[u8],
-) -> Tally {
-    let a = line::field(text, 0);
-    let b = line::field(text, 1);
-    let c = line::field(text, 2);
-    match line::letter(text) {
-        b'p' => show::part(line::after(text, 6)),
-        b'a' => show::asked(tally, line::after(text, 6)),
-        b'l' => guest::list(memory, table, a, b, c),
-        b'e' => guest::entry(memory, table, a, b, c),
-        b'w' => guest::write(memory, table, a, b),
-        b'v' => guest::vmsa(memory, table, a),
-        b'r' => guest::runs(sheet, a),
+) {
+    match line::byte(text, 0) {
+        b'w' => guest::write(memory, table, text),
+        b'r' => guest::runs(sheet, text),
         b's' => {
-            return launch(memory, table, sheet, tally, text);
+            let answer = guest::launch(memory, table, sheet, text);
+            show::launched(found, answer);
         }
         b'c' => {
-            return call(memory, table, sheet, tally, text);
+            let called = guest::call(memory, table, sheet, text);
+            let outcome = called.outcome;
+            show::answered(found, line::field(text, 0), outcome, called.registers);
         }
-        _ => show::say(b"A line that the script does not have.\n"),
+        _ => {}
     }
-    tally
 }
 
-fn walk(
-    memory: &mut [u8; 65536],
-    table: &mut [u8; 16],
-    sheet: &mut [u8; 512],
-    script: &[u8],
-) -> Tally {
-    let mut count = Tally { steps: 0, right: 0 };
+// Line by line through the script.
+fn walk(script: &[u8], memory: &mut [u8; 65536], table: &mut [u8; 16], sheet: &mut [u8; 512]) {
+    let mut found = [b' '; 128];
+    let mut tally = Tally { steps: 0, right: 0 };
     let mut at = 0;
     while at < script.len() {
-        let end = line::end(script, at);
-        count = step(memory, table, sheet, count, &script[at..end]);
-        at = end + 1;
+        let end = line::next(script, at);
+        let text = &script[at..end];
+        act(&mut found, memory, table, sheet, text);
+        tally = show::tell(&mut found, memory, table, sheet, tally, text);
+        at = end;
     }
-    count
+    show::total(tally);
 }
 
 fn main() {
@@ -104,6 +56,7 @@ fn main() {
     memory[0xB0CA] = 1;
     memory[0xB0D1] = 0x10;
     show::legend();
-    let tally = walk(&mut memory, &mut table, &mut sheet, &night::SCRIPT);
-    show::total(tally);
+    let mut script = io::large_buffer();
+    let held = io::read_full(STDIN_FILENO, &mut script);
+    walk(&script[..held], &mut memory, &mut table, &mut sheet);
 }

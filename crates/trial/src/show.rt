@@ -5,6 +5,7 @@ use crate::line;
 use libc::STDOUT_FILENO;
 use rules::Launched;
 use rules::Outcome;
+use rules::Registers;
 
 // The steps so far, and how many of them came out as the paper says.
 pub struct Tally {
@@ -16,8 +17,9 @@ pub fn say(text: &[u8]) {
     io::write_all(STDOUT_FILENO, text);
 }
 
-pub fn number(n: u64) {
-    io::print_decimal(STDOUT_FILENO, n);
+fn labelled(label: &[u8], text: &[u8]) {
+    say(label);
+    say(text);
 }
 
 pub fn legend() {
@@ -42,15 +44,23 @@ The flag is 1 if a pool page is free.
 }
 
 // What a part of the night is about, and a ruler over its maps.
-pub fn part(text: &[u8]) {
-    say(b"\n");
-    say(text);
+fn part(text: &[u8]) {
+    labelled(b"\n", text);
     say(
-        b"
-                 pages             vCPUs
+        b"                 pages             vCPUs
                  0123456789ABCDEF  0123456789ABCDEF  flag  answer
 ",
     );
+}
+
+// What a step asks, after its number.
+fn asked(tally: Tally, text: &[u8]) {
+    let step = std::num::wrapping_add_u64(tally.steps, 1);
+    if step < 10 {
+        say(b" ");
+    }
+    io::print_decimal(STDOUT_FILENO, step);
+    labelled(b"  ", text);
 }
 
 // The mark of a page: a letter where its byte is right for its owner, on a machine whose startup vCPU has VMPL 1.
@@ -71,14 +81,6 @@ fn mark(b: u8) -> u8
     }
 }
 
-fn marks(found: &mut [u8; 128], table: &[u8; 16]) {
-    let mut p = 0;
-    while p < 16 {
-        found[p] = mark(table[p]);
-        p += 1;
-    }
-}
-
 // The mark of a record, by its bytes +0 and +2.
 fn vcpu_mark(live: u8, running: u8) -> u8 {
     match live {
@@ -92,20 +94,23 @@ fn vcpu_mark(live: u8, running: u8) -> u8 {
     }
 }
 
-fn vcpus(found: &mut [u8; 128], sheet: &[u8; 512]) {
-    let mut record = 0;
-    while record < 16 {
-        found[18 + record] = vcpu_mark(sheet[32 * record], sheet[32 * record + 2]);
-        record += 1;
-    }
+// The gPA of the calling page that a record names.
+pub fn calling(sheet: &[u8; 512], record: usize) -> usize {
+    let at = 32 * (record % 16) + 12;
+    line::number(sheet, at, 4) as usize % 65536 * 4096
 }
 
-// How the machine stands: the two maps and the flag, under the ruler. Answers where the answer of the call begins.
-pub fn stands(found: &mut [u8; 128], table: &[u8; 16], sheet: &[u8; 512], flag: u8) -> usize {
-    marks(found, table);
-    vcpus(found, sheet);
-    line::put_number(found, 34, b"  ", flag as u64);
-    42
+// How the machine stands, under the ruler: the pages and the records, sixteen of each, and the flag, which is byte 1 of the startup's calling page.
+fn stands(found: &mut [u8; 128], memory: &[u8; 65536], table: &[u8; 16], sheet: &[u8; 512]) {
+    let flag = line::byte(memory, std::num::wrapping_add_usize(calling(sheet, 0), 1));
+    found[36] = std::num::wrapping_add_u8(flag, b'0');
+    let mut i = 0;
+    while i < 16 {
+        let at = 32 * i;
+        found[i] = mark(table[i]);
+        found[18 + i] = vcpu_mark(sheet[at], sheet[at + 2]);
+        i += 1;
+    }
 }
 
 fn code_line(rax: u64) -> usize {
@@ -126,8 +131,8 @@ fn code_line(rax: u64) -> usize {
     }
 }
 
-// A code by number and name. All are refusals but success and incomplete.
-fn code(found: &mut [u8; 128], at: usize, rax: u64) -> usize {
+// The answers by name. All are refusals but success and incomplete.
+fn named(found: &mut [u8; 128], name: usize) {
     let names = b" success
  refused: one more page needed
  incomplete
@@ -140,74 +145,106 @@ fn code(found: &mut [u8; 128], at: usize, rax: u64) -> usize {
  refused: in use
  refused: size mismatch
  refused: validity did not change
- a code that the paper does not have";
-    let to = line::put_hex(found, at, b"0x", rax, 8);
-    line::put(found, to, line::nth(names, code_line(rax)))
+ a code that the paper does not have
+ outcome 1, no call
+ outcome 2, gone
+ outcome 3, bad machine
+ 0 made
+ 1 refused: a size wrong
+ 2 refused: out of range
+ 3 refused: two areas meet
+ 4 refused: VMSA unfit
+";
+    line::put(found, line::nth(names, name));
 }
 
-// What a call came back with: the code where it was handled.
-pub fn answer(found: &mut [u8; 128], at: usize, outcome: Outcome, rax: u64) -> usize {
-    match outcome {
-        Outcome::Handled => code(found, at, rax),
-        Outcome::NoCall => line::put(found, at, b"outcome 1, no call"),
-        Outcome::Gone => line::put(found, at, b"outcome 2, gone"),
-        Outcome::BadMachine => line::put(found, at, b"outcome 3, bad machine"),
+pub fn launched(found: &mut [u8; 128], answer: Launched) {
+    let name = match answer {
+        Launched::Made => 16,
+        Launched::WrongSize => 17,
+        Launched::OutOfRange => 18,
+        Launched::AreasMeet => 19,
+        Launched::UnfitVmsa => 20,
+    };
+    named(found, name);
+}
+
+// What a call came back with: where it was handled, its code by number and name; and RCX after Query and vTOM, the calls from 6 on.
+pub fn answered(found: &mut [u8; 128], call: usize, outcome: Outcome, after: Registers) {
+    let name = match outcome {
+        Outcome::Handled => {
+            line::put_hex(found, after.rax, 8);
+            code_line(after.rax)
+        }
+        Outcome::NoCall => 13,
+        Outcome::Gone => 14,
+        Outcome::BadMachine => 15,
+    };
+    named(found, name);
+    if call >= 6 {
+        line::put(found, b", RCX");
+        line::put_hex(found, after.rcx, 16);
     }
 }
 
-fn launch_line(answer: Launched) -> usize {
-    match answer {
-        Launched::Made => 0,
-        Launched::WrongSize => 1,
-        Launched::OutOfRange => 2,
-        Launched::AreasMeet => 3,
-        Launched::UnfitVmsa => 4,
+// A number that the guest looks at after a call, after its name: one of two bytes is decimal.
+fn value(found: &mut [u8; 128], bytes: &[u8], text: &[u8]) {
+    let width = line::field(text, 1);
+    let n = line::number(bytes, line::field(text, 0), width);
+    line::put(found, line::after(text, 16));
+    if width == 2 {
+        line::put_number(found, n);
+    } else {
+        line::put_hex(found, n, 2);
     }
-}
-
-pub fn launched(found: &mut [u8; 128], at: usize, answer: Launched) -> usize {
-    let names = b"0 made
-1 refused: a size wrong
-2 refused: out of range
-3 refused: two areas meet
-4 refused: VMSA unfit";
-    line::put(found, at, line::nth(names, launch_line(answer)))
-}
-
-// What is asked, with the number of the step.
-pub fn asked(tally: Tally, text: &[u8]) {
-    let step = std::num::wrapping_add_u64(tally.steps, 1);
-    if step < 10 {
-        say(b" ");
-    }
-    number(step);
-    say(b"  ");
-    say(text);
-    say(b"\n");
 }
 
 // What the paper says, and what was found, after the verdict.
-pub fn verdict(tally: Tally, said: &[u8], found: &[u8; 128], to: usize) -> Tally {
-    let came = line::first(found, to);
+fn verdict(tally: Tally, said: &[u8], found: &[u8; 128]) -> Tally {
+    let came = line::nth(found, 0);
     let mut t = tally;
     t.steps = std::num::wrapping_add_u64(t.steps, 1);
-    say(b"    paper says   ");
-    say(said);
-    if line::same(said, came) {
+    labelled(b"    paper says   ", said);
+    if line::begins(came, said) {
         t.right = std::num::wrapping_add_u64(t.right, 1);
-        say(b"\n    as expected  ");
+        labelled(b"    as expected  ", came);
     } else {
-        say(b"\n    NOT EXPECTED ");
+        labelled(b"    NOT EXPECTED ", came);
     }
-    say(came);
-    say(b"\n");
     t
+}
+
+// What a line of the script says or looks at. A step begins with what it asks, and ends with what the paper says of it.
+pub fn tell(
+    found: &mut [u8; 128],
+    memory: &[u8; 65536],
+    table: &[u8; 16],
+    sheet: &[u8; 512],
+    tally: Tally,
+    text: &[u8],
+) -> Tally {
+    let words = line::after(text, 6);
+    match line::byte(text, 0) {
+        b'p' => part(words),
+        b'a' => {
+            found[41] = b'\n';
+            asked(tally, words);
+        }
+        b'v' => value(found, memory, text),
+        b'b' => value(found, table, text),
+        b't' => {
+            stands(found, memory, table, sheet);
+            return verdict(tally, words, found);
+        }
+        _ => {}
+    }
+    tally
 }
 
 pub fn total(tally: Tally) {
     say(b"\n");
-    number(tally.right);
+    io::print_decimal(STDOUT_FILENO, tally.right);
     say(b" of ");
-    number(tally.steps);
+    io::print_decimal(STDOUT_FILENO, tally.steps);
     say(b" steps came out as the paper says.\n");
 }

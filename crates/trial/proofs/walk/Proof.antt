@@ -1,47 +1,26 @@
--- `trial::walk` is safe and ends. The loop's invariant: the place is at most one past the script's end. The measure is the rest of the script.
+-- `trial::walk` is safe and ends. The loop's invariant: the place is in the script or at its end. The measure is what is left of the script.
 -- Assumes nothing.
-use Prim.Native.Nat.{suc, _-_, _≤_, zero-le}
+use Prim.Native.Nat.{_-_, _≤_}
 use native.Mathlib.Omega.{arith}
-use borrow.Author.Needs.{needs}
 use lib.ListN.{length}
+use borrow.Author.Needs.{needs}
 use Rattle.trial.proofs.walk.Statement.{statement}
 use Rattle.trial.proofs.walk.Tie as tie
 
 abbrev Inv-loop : tie.InvT-loop
-Inv-loop memory₀ table₀ sheet₀ script count₀ at₀ memory table sheet count at = at ≤ suc (length script)
+Inv-loop script memory₀ table₀ sheet₀ found₀ tally₀ at₀ memory table sheet found tally at = at ≤ length script
 
 abbrev μ-loop : tie.MeasureT-loop
-μ-loop memory₀ table₀ sheet₀ script count₀ at₀ memory table sheet count at = suc (length script) - at
+μ-loop script memory₀ table₀ sheet₀ found₀ tally₀ at₀ memory table sheet found tally at = length script - at
 
-loop-holds : tie.Need-loop-holds Inv-loop μ-loop
-loop-holds c = zero-le
-
-end-requires : tie.Need-end-requires Inv-loop μ-loop
-end-requires c κs = omega arith
-
-sub-step : tie.Need-sub-step Inv-loop μ-loop
-sub-step c = omega arith
-
-part-step-start : tie.Need-part-step-start Inv-loop μ-loop
-part-step-start c = omega arith
-
-part-step-end : tie.Need-part-step-end Inv-loop μ-loop
-part-step-end c = omega arith
-
-step-requires : tie.Need-step-requires Inv-loop μ-loop
-step-requires c κs = search needs
-
-add-at : tie.Need-add-at Inv-loop μ-loop
-add-at c = omega arith
+-- where the line was found that a step is done by
+abbrev found : tie.After-act Inv-loop μ-loop → tie.After-next Inv-loop μ-loop
+found c = let at-memory = c .before .before .before in let at-text = at-memory .before .before in at-text .before
 
 loop-less : tie.Need-loop-less Inv-loop μ-loop
-loop-less c = omega arith
-
-loop-again : tie.Need-loop-again Inv-loop μ-loop
-loop-again c = omega arith
-
-returns : tie.Need-returns Inv-loop μ-loop
-returns c = search needs
+loop-less c =
+    let at-memory = c .before .before .before in let at-next = found (at-memory .before .before) in
+    omega (arith, at-next .next .ensures .2 (at-next .before .loop-test .taken))
 
 pub walk-spec : {M : Type 1} → statement M
 walk-spec =
@@ -49,13 +28,14 @@ walk-spec =
     (tie.spec
     Inv-loop
     μ-loop
-    loop-holds
-    end-requires
-    sub-step
-    part-step-start
-    part-step-end
-    step-requires
-    add-at
+    (λ c. omega arith)
+    (λ c κs. omega arith)
+    (λ c. omega arith)
+    (λ c. omega arith)
+    (λ c. omega arith)
+    (λ c κs. search needs)
+    (λ c κs. search needs)
     loop-less
-    loop-again
-    returns)
+    (λ c. omega arith)
+    (λ c κs. search needs)
+    (λ c. search needs))
