@@ -10,6 +10,7 @@ ghost use Rattle.rules.specs.Machine.{own, pool-in-use, is-live, needs-page};
 ghost use Rattle.rules.specs.Calls.{Asked, unfit-page, unfit-pages, unfit-vcpu, is-free, created, create};
 ghost use Rattle.rules.specs.Flat.{buffers, parts, parted};
 ghost use Rattle.laws.specs.Alone.{table-alone};
+ghost use Rattle.laws.specs.Marks.{marks};
 ghost use Rattle.laws.specs.Tested.{Tested};
 ghost use Rattle.create_call.specs.Fit.{Asking, Named, Fit};
 use pages::PAGE_SIZE_U64;
@@ -42,20 +43,30 @@ fn unfit_pages(table: &[u8], vmpl: u8, vmsa: u64, calling: u64) -> bool
     vmsa == calling
 }
 
-// The lowest record that is not live; the number of records if all are.
+// The live marks as one number: bit i is set where record i is live.
+fn live_marks(sheet: &[u8]) -> u64
+    requires { ⌜ length (now sheet) ≡ record-size * records ⌝ }
+    ensures { λ r. ⌜ r ≡ marks is-live (parts record-size (now (sheet .entry))) ⌝ }
+{
+    let mut marks = 0;
+    let mut i = 0;
+    while i < sheet::RECORDS {
+        let live = parts::byte(sheet, sheet::RECORD_SIZE, i, sheet::LIVE);
+        if live == 1 {
+            marks |= 1 << i;
+        }
+        i += 1;
+    }
+    marks
+}
+
+// The lowest record that is not live; the number of records if all are. The live marks inverted are the free marks.
 fn free_record(sheet: &[u8]) -> usize
     requires { ⌜ length (now sheet) ≡ record-size * records ⌝ }
     ensures { λ r. ⌜ r ≡ lowest (λ x. not (is-live x)) (parts record-size (now (sheet .entry))) ⌝ }
 {
-    let mut i = 0;
-    while i < sheet::RECORDS {
-        let live = parts::byte(sheet, sheet::RECORD_SIZE, i, sheet::LIVE);
-        if live != 1 {
-            return i;
-        }
-        i += 1;
-    }
-    i
+    let free_marks = !live_marks(sheet);
+    u64::trailing_zeros(free_marks) as usize
 }
 
 // VMPL or EFER in the VMSA page unfit, VMPL below the caller's, features unlike record 0's, or the APIC ID of a live record.

@@ -8,6 +8,7 @@ pub mod Writes
 pub mod Ranges
 pub mod Change
 pub mod Counts
+pub mod Marks
 pub mod TableByte
 pub mod FlatSteps
 pub mod Usable
