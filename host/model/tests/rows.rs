@@ -1,7 +1,8 @@
-//! Every row of "Sixteen pages", marked or not, the refusals of each call in their order, lists that stop midway, and callers of each VMPL: the model.
+//! Every row of "Sixteen pages", marked or not, the refusals of each call in their order, lists that stop midway, callers of each VMPL,
+//! and every set of live records: the model.
 
 use trials::rows::{Machine, Subject};
-use trials::{confined, lists, refusals, sixteen};
+use trials::{confined, lists, records, refusals, sixteen};
 
 const MODEL: Subject = Subject { launch, call };
 
@@ -71,4 +72,9 @@ fn grants_end_at_the_callers_vmpl() {
 #[test]
 fn vcpus_of_a_lower_vmpl_are_out_of_reach() {
     confined::vcpus(&MODEL);
+}
+
+#[test]
+fn the_lowest_free_record_of_every_set() {
+    records::lowest_free(&MODEL);
 }

@@ -1,12 +1,12 @@
-//! Every row of "Sixteen pages", marked or not, the refusals of each call in their order, lists that stop midway, and callers of each
-//! VMPL: the core, with guard bytes around each buffer.
+//! Every row of "Sixteen pages", marked or not, the refusals of each call in their order, lists that stop midway, callers of each VMPL,
+//! and every set of live records: the core, with guard bytes around each buffer.
 
 mod common;
 
 use common::{Guarded, BESIDE_OTHERS, BESIDE_TABLE, PAGE};
 use monitor::Plan;
 use trials::rows::{Machine, Subject};
-use trials::{confined, lists, refusals, sixteen};
+use trials::{confined, lists, records, refusals, sixteen};
 
 const CORE: Subject = Subject { launch, call };
 
@@ -90,6 +90,11 @@ fn grants_end_at_the_callers_vmpl() {
 #[test]
 fn vcpus_of_a_lower_vmpl_are_out_of_reach() {
     confined::vcpus(&CORE);
+}
+
+#[test]
+fn the_lowest_free_record_of_every_set() {
+    records::lowest_free(&CORE);
 }
 
 /// "a size wrong": each of the four buffers, a byte or a page too short or too long.

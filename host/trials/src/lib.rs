@@ -1,10 +1,11 @@
 //! What the tests try: numbers at random, the same in every run, calls that a guest might make, the rows of document 01, lists that stop at each of their
-//! entries, and callers of each VMPL.
+//! entries, callers of each VMPL, and every set of live records.
 
 mod calls;
 pub mod confined;
 pub mod lists;
 mod random;
+pub mod records;
 pub mod refusals;
 pub mod rows;
 pub mod sixteen;

@@ -118,9 +118,12 @@ impl Subject {
     ) {
         assert_eq!((self.call)(machine, caller), outcome, "{row}");
         assert_eq!(machine.registers, expected.registers, "{row}");
-        let differs = |at: &usize| machine.memory[*at] != expected.memory[*at];
-        let at = (0..expected.memory.len()).find(differs);
-        assert_eq!(at, None, "a byte of memory, after {row}");
+        // Memory is long: it is compared as a whole, and looked through only to tell where it differs.
+        if machine.memory != expected.memory {
+            let mut pairs = machine.memory.iter().zip(&expected.memory);
+            let at = pairs.position(|(is, must_be)| is != must_be).unwrap();
+            panic!("byte {at:#x} of memory, after {row}");
+        }
         assert_eq!(machine.table, expected.table, "{row}");
         assert_eq!(machine.sheet, expected.sheet, "{row}");
     }
