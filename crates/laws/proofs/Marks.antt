@@ -20,7 +20,7 @@ use Rattle.laws.proofs.Ranges.{by-test}
 
 module _ {A : Type 0} (test : A → Bool) where
   -- a number as wide as the list holds them
-  pub marks-lt : (k : ℕ) (xs : List A) → length xs ≤ k → marks test xs < 2 ^ k
+  marks-lt : (k : ℕ) (xs : List A) → length xs ≤ k → marks test xs < 2 ^ k
   unfolding marks
   marks-lt k [] h = pow-pos k
   marks-lt zero (x ∷ xs) h = absurd (omega arith)

@@ -34,9 +34,11 @@ unfolding records
 byte-requires c κs = at (record { sized = c .before .before .before .pre; below = omega arith }) _ _ (lit≤ tt)
 
 shl-marks : tie.Need-shl-marks Inv-loop μ-loop
+unfolding records
 shl-marks c = omega arith
 
 add-i : tie.Need-add-i Inv-loop μ-loop
+unfolding records
 add-i c = omega arith
 
 loop-less : tie.Need-loop-less Inv-loop μ-loop
