@@ -87,11 +87,7 @@ fn create(
     let asks = [2, gpa(vmsa), gpa(calling), record as u64];
     subject.handles(machine, caller, asks, code, |after| {
         if code == 0 {
-            after.table[vmsa] = 0x0D;
-            after.table[calling] = 0x79;
-            let [id, vmsa, calling] = [record as u8, vmsa as u8, calling as u8];
-            let bytes = [1, vmpl, 0, 0, id, 0, 0, 0, vmsa, 0, 0, 0, calling];
-            after.sheet[32 * record..32 * record + 13].copy_from_slice(&bytes);
+            after.make_vcpu(record, vmpl, record as u8, vmsa, calling);
         }
     });
 }

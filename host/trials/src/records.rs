@@ -44,15 +44,11 @@ fn fit(subject: &Subject) -> Machine {
 
 /// "Records 4 to 15 also need the lowest free pool page": then none is left, and the flag says so.
 fn made(machine: &mut Machine, record: usize) {
-    let pool = u8::from(record >= 4);
-    machine.table[6] = 0x0D;
-    machine.table[5] = 0x79;
-    if pool == 1 {
+    machine.make_vcpu(record, 1, 9, 6, 5);
+    if record >= 4 {
+        machine.sheet[32 * record + 3] = 1;
+        machine.sheet[32 * record + 16] = 1;
         machine.table[1] = 0x0C;
         machine.memory[0xA001] = 0;
     }
-    let head = [1, 1, 0, pool, 9, 0, 0, 0, 6, 0, 0, 0, 5, 0, 0, 0, pool];
-    let bytes = &mut machine.sheet[32 * record..32 * record + 32];
-    bytes.fill(0);
-    bytes[..head.len()].copy_from_slice(&head);
 }

@@ -194,6 +194,16 @@ impl Machine {
         }
     }
 
+    /// Makes what Create makes: a VMSA and a calling page, and a record that names them and holds no pool page.
+    pub fn make_vcpu(&mut self, record: usize, vmpl: u8, apic_id: u8, vmsa: usize, calling: usize) {
+        self.table[vmsa] = 0x0D;
+        self.table[calling] = 0x79;
+        let [vmsa, calling] = [vmsa as u8, calling as u8];
+        let bytes = &mut self.sheet[32 * record..32 * (record + 1)];
+        bytes.fill(0);
+        bytes[..13].copy_from_slice(&[1, vmpl, 0, 0, apic_id, 0, 0, 0, vmsa, 0, 0, 0, calling]);
+    }
+
     fn set_registers(&mut self, values: [u64; 6]) {
         self.registers = values.map(u64::to_le_bytes).concat();
     }
