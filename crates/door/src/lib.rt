@@ -1,4 +1,4 @@
-// The door for a host written in Rust or C: numbers and byte buffers only. Each function hands over to the monitor's and answers the paper's
+// The door for a host written in Rust or C: numbers and byte buffers only. Each function hands over to one of `monitor`, `call` or `discovery` and answers the paper's
 // number. None has a `requires`: any size and any number is answered. Nothing is assumed.
 pub mod in_place;
 
@@ -9,8 +9,11 @@ ghost use Rattle.rules.specs.Call.{Posed};
 ghost use Rattle.rules.specs.declared.Plan.{Plan};
 ghost use Rattle.rules.specs.Answers.{Answered, outcome-number, launched-number, verdict-number};
 ghost use Rattle.rules.specs.Flat.{buffers, registers-of, register-bytes};
+ghost use Rattle.rules.specs.Discovery.{located-number};
 ghost use Rattle.rules.specs.Promises.{Monitor-launch-promise, Monitor-store-promise, Monitor-mark-promise, Monitor-call-promise};
+ghost use Rattle.rules.specs.Promises.{Monitor-announce-promise, Monitor-discover-promise};
 use rules::Launched;
+use rules::Located;
 use rules::Outcome;
 use rules::Plan;
 use rules::Registers;
@@ -164,4 +167,41 @@ pub extern "C" fn monitor_call(
     write_registers(registers, after);
     let answer = called.outcome;
     outcome(answer)
+}
+
+fn located(answer: Located) -> u32
+    ensures { λ r. ⌜ r ≡ located-number answer ⌝ }
+{
+    match answer {
+        Located::Told => 0,
+        Located::UnalignedBase => 1,
+        Located::UnalignedSize => 2,
+        Located::UnalignedArea => 3,
+        Located::PastEnd => 4,
+        Located::AreaInside => 5,
+        Located::NoMonitor => 6,
+        Located::WrongLength => 7,
+    }
+}
+
+#[no_mangle]
+pub extern "C" fn monitor_announce(
+    page: &mut [u8],
+    base: u64,
+    size: u64,
+    area: u64,
+    vmpl: u8,
+) -> u32
+    ensures { λ r. ⌜
+        Monitor-announce-promise base size area vmpl (now (page .entry)) (record { answer = r; after = now (page .exit) }) ⌝ }
+{
+    located(discovery::announce(page, base, size, area, vmpl))
+}
+
+#[no_mangle]
+pub extern "C" fn monitor_discover(page: &[u8], fields: &mut [u8]) -> u32
+    ensures { λ r. ⌜
+        Monitor-discover-promise (now (page .entry)) (now (fields .entry)) (record { answer = r; after = now (fields .exit) }) ⌝ }
+{
+    located(discovery::discover(page, fields))
 }

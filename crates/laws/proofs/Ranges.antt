@@ -18,6 +18,11 @@ pub by-test : {C : Type 0} (b : Bool) → (b ≡ true → C) → (b ≡ false �
 by-test true passes fails = passes refl
 by-test false passes fails = fails refl
 
+-- two tests that come out alike are one
+pub same-test : (a b : Bool) → (a ≡ true → b ≡ true) → (a ≡ false → b ≡ false) → a ≡ b
+same-test true b passes fails = sym (passes refl)
+same-test false b passes fails = sym (fails refl)
+
 -- where neither of two tests passes, each fails
 pub or-false : (a b : Bool) → (a || b) ≡ false → (a ≡ false) × (b ≡ false)
 or-false true b e = absurd (true≢false e)

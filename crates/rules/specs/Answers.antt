@@ -1,4 +1,4 @@
--- The types that cross crates; the paper's number for each case of each answer, and how an answer is given.
+-- The types that cross crates; the paper's number for each case of each answer, and how an answer is given. Those of the discovery fields are in Discovery.
 use Rattle.rules.specs.Words.{ℕ, Bool, cond}
 pub use Rattle.rules.specs.declared.Registers.{Registers}
 pub use Rattle.rules.specs.declared.Vcpu.{Vcpu}

@@ -5,6 +5,7 @@ use Rattle.rules.specs.Words.{ℕ, List}
 use Rattle.rules.specs.Answers.{Registers, Plan, Outcome, Launched, Verdict, outcome-number, launched-number, verdict-number, Answered, numbered}
 use Rattle.rules.specs.Call.{Posed}
 use Rattle.rules.specs.Flat.{Buffers, launch-bytes, store-bytes, mark-bytes, call-bytes, door-bytes}
+use Rattle.rules.specs.Discovery.{Located, located-number, announce, discover}
 
 -- `monitor::launch::launch`, told N and a plan
 unfoldable pub Launch-promise : ℕ → Plan → Buffers → Answered Launched Buffers → Type 0
@@ -34,3 +35,18 @@ Monitor-mark-promise i value lent left = numbered verdict-number (mark-bytes i v
 
 unfoldable pub Monitor-call-promise : ℕ → Posed (List ℕ) Buffers → Answered ℕ (Posed (List ℕ) Buffers) → Type 0
 Monitor-call-promise caller lent left = numbered outcome-number (door-bytes caller lent) ≡ left
+
+-- `discovery::announce`, of base, size, area and VMPL; lent the page
+unfoldable pub Announce-promise : (base size area vmpl : ℕ) → List ℕ → Answered Located (List ℕ) → Type 0
+Announce-promise base size area vmpl lent left = announce base size area vmpl lent ≡ left
+
+-- `discovery::discover`; lent the page to look at, and the bytes for its fields
+unfoldable pub Discover-promise : List ℕ → List ℕ → Answered Located (List ℕ) → Type 0
+Discover-promise page lent left = discover page lent ≡ left
+
+-- `door::monitor_announce`, `monitor_discover`: the same with the paper's numbers
+unfoldable pub Monitor-announce-promise : (base size area vmpl : ℕ) → List ℕ → Answered ℕ (List ℕ) → Type 0
+Monitor-announce-promise base size area vmpl lent left = numbered located-number (announce base size area vmpl lent) ≡ left
+
+unfoldable pub Monitor-discover-promise : List ℕ → List ℕ → Answered ℕ (List ℕ) → Type 0
+Monitor-discover-promise page lent left = numbered located-number (discover page lent) ≡ left

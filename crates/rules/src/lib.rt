@@ -1,5 +1,5 @@
-// What a reader must believe, first half: the types that cross crates. The second half, the rule sheet as definitions, is in specs/.
-// Each answer is an enum of its own; specs/Answers.antt gives the paper's number for each of its cases.
+// What a reader must believe, first half: the types that cross crates. The second half, the rule sheet and the requests that have landed as definitions, is in specs/.
+// Each answer is an enum of its own; specs/Answers.antt gives the paper's number for each of its cases, specs/Discovery.antt for those of `Located`.
 // There is no code here, and nothing is assumed.
 
 // Registers: RAX, RCX, RDX, R8, R9, and the exit reason from the VMSA.
@@ -96,4 +96,25 @@ pub enum Entry {
         wish: Wish,
     },
     Unread(Code),
+}
+
+// The discovery fields of the secrets page: SVSM_BASE, SVSM_SIZE, SVSM_CAA, SVSM_MAX_VERSION and SVSM_GUEST_VMPL.
+pub struct Discovery {
+    pub base: u64,
+    pub size: u64,
+    pub area: u64,
+    pub version: u32,
+    pub vmpl: u8,
+}
+
+// What the writer and the reader of the discovery fields answer.
+pub enum Located {
+    Told,
+    UnalignedBase,
+    UnalignedSize,
+    UnalignedArea,
+    PastEnd,
+    AreaInside,
+    NoMonitor,
+    WrongLength,
 }
