@@ -7,8 +7,8 @@ use Prim.Native.Nat.{ℕ, zero, suc, _+_, _*_, _/_, _%_, _^_, _<_, _≤_}
 use native.Mathlib.Omega.{arith}
 use native.Mathlib.Nat.{add-zero, add-suc, suc-add, add-assoc, pow-suc, mod-eq-of-lt, one-le-pow}
 use lib.Arith.{mod-mul}
-use lib.ListN.{length, getD, take, drop, set, length-replicate}
-use lib.Seq.{sets, sets-eq, length-take-le, getD-append-add, getD-set-other, drop-cons}
+use lib.ListN.{length, getD, take, drop, set, length-set, length-replicate}
+use lib.Seq.{sets, sets-eq, length-take-le, getD-append-add, getD-set-same, getD-set-other, drop-cons}
 use Rattle.rules.specs.Words.{little, number}
 use Rattle.rules.specs.Machine.{zeros}
 
@@ -116,3 +116,18 @@ pub number-zeros : (w n i : ℕ) → number w (zeros n) i ≡ 0
 unfolding number
 number-zeros zero n i = refl
 number-zeros (suc w) n i = omega (arith, zeros-at n i, number-zeros w n (suc i))
+
+-- an element that is written is read
+pub getD-stored : {A : Type 0} (l : List A) (at : ℕ) (vs : List A) (i : ℕ) (d : A) → at + length vs ≤ length l → i < length vs
+    → getD (sets l at vs) (at + i) d ≡ getD vs i d
+getD-stored l at [] i d h b = absurd (omega arith)
+getD-stored l at (v ∷ vs) zero d h b =
+    rw add-zero (getD-sets-elsewhere (set l at v) (suc at) vs at d (inl (omega arith)) ∙ getD-set-same l at v d (omega arith))
+getD-stored l at (v ∷ vs) (suc i) d h b =
+    rw (add-suc, ← suc-add) (getD-stored (set l at v) (suc at) vs i d (omega (arith, length-set l at v)) (omega arith))
+
+-- and so is a number, at any place among them
+pub number-stored : (w : ℕ) (l : List ℕ) (at : ℕ) (vs : List ℕ) (i : ℕ) → at + length vs ≤ length l → i + w ≤ length vs
+    → number w (sets l at vs) (at + i) ≡ number w vs i
+number-stored w l at vs i h b =
+    number-same w (sets l at vs) vs (at + i) i (λ k c. rw add-assoc (getD-stored l at vs (i + k) 0 h (omega arith)))

@@ -13,4 +13,5 @@ pub mod Pool
 pub mod Bytes
 pub mod Results
 pub mod Numbers
+pub mod Discovery
 pub mod Theorems

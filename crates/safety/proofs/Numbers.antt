@@ -1,4 +1,4 @@
--- The paper's numbers tell the cases of each answer apart: each case can be found again from its number.
+-- The paper's numbers tell the cases of each answer apart: each case can be found again from its number. Those of the discovery fields are in Discovery.
 use mathlib.Core.Path.{_≡_, refl, sym, _∙_, ap}
 use mathlib.Core.Bool.{cond}
 use Prim.Native.Nat.{ℕ}
@@ -16,7 +16,7 @@ use Rattle.rules.specs.Answers.{outcome-number, code-number, launched-number, v
 use Rattle.safety.specs.Determined.{Told-apart, Answers-told-apart}
 
 -- a number from which the case can be found again tells it apart
-found-again : {A : Type 0} (number : A → ℕ) (find : ℕ → A) → ((a : A) → find (number a) ≡ a) → Told-apart number
+pub found-again : {A : Type 0} (number : A → ℕ) (find : ℕ → A) → ((a : A) → find (number a) ≡ a) → Told-apart number
 unfolding Told-apart
 found-again number find finds one other e = sym (finds one) ∙ ap find e ∙ finds other
 

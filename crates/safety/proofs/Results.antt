@@ -1,4 +1,5 @@
--- Two results that the promise of a public function allows for the same input coincide: one law, and each promise an instance of it.
+-- Two results that the promise of a public function allows for the same input coincide: one law, and each promise an instance of it. Those of the discovery fields are
+-- in Discovery.
 use mathlib.Core.Path.{_≡_, sym, _∙_}
 use Rattle.rules.specs.Promises.{Launch-promise, Store-promise, Mark-promise, Call-promise}
 use Rattle.rules.specs.Promises.{Monitor-launch-promise, Monitor-store-promise, Monitor-mark-promise, Monitor-call-promise}
@@ -6,7 +7,7 @@ use Rattle.safety.specs.Determined.{Determined, Launch-determined, Store
 use Rattle.safety.specs.Determined.{Monitor-launch-determined, Monitor-store-determined, Monitor-mark-determined, Monitor-call-determined}
 
 -- what equals one thing is equal
-determined : {A : Type 0} (promised : A) → Determined (λ left. promised ≡ left)
+pub determined : {A : Type 0} (promised : A) → Determined (λ left. promised ≡ left)
 unfolding Determined
 determined promised one other e f = sym e ∙ f
 

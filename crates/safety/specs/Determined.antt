@@ -1,5 +1,5 @@
 -- "Show that any two results allowed by it coincide": of the promise of each public function, as `rules` names it and the code's `ensures` cites it, with all
--- that went in. A result is the answer and every buffer and register that was lent to be changed.
+-- that went in. A result is the answer and every buffer and register that was lent to be changed. Those of the discovery fields are in Discovery.
 use mathlib.Core.Path.{_≡_}
 use mathlib.Core.List.{List}
 use Prim.Native.Nat.{ℕ}

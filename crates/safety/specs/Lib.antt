@@ -1,5 +1,6 @@
--- The statements: demands 1 and 3, and that promises determine their results; before them their words.
+-- The statements: demands 1 and 3, that promises determine their results, and the discovery fields; before them their words.
 pub mod Terms
 pub mod Sentences
 pub mod Statements
 pub mod Determined
+pub mod Discovery

@@ -102,7 +102,7 @@ module _ (kept : Stays-sound) where
 -- ---- launch
 
 -- one that is made on bytes was lent n pages, all of right size, and is the launch on the machine that they are
-launch-told : (n : ℕ) (plan : Plan) (b : Buffers) → launch-bytes n plan b .answer ≡ Made →
+pub launch-told : (n : ℕ) (plan : Plan) (b : Buffers) → launch-bytes n plan b .answer ≡ Made →
     let l = launch plan (record { lent = parted b }) in
     (well-sized b ≡ true) × (n ≡ length (b .table)) × (launch-bytes n plan b ≡ record { answer = l .answer; after = joined (l .after .lent) })
 unfolding launch-bytes refuse launched-number
