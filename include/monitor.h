@@ -7,10 +7,13 @@
  *   table   N bytes, one a page: bits 2:0 owner, bit 3 valid, bits 4, 5, 6 permission for VMPL 1, 2, 3;
  *   sheet   512 bytes, 16 vCPU records of 32.
  *
+ * To tell the firmware where the monitor is, monitor_announce is lent a secrets page instead; monitor_discover, which reads it, is lent such a page, and 32 bytes
+ * for what it finds (fields).
+ *
  * Any lengths, numbers and bytes may be given: a wrong one has its answer. Three things are the caller's part. A pointer is fit for its length and is never
  * null, also where the length is 0; a buffer that is not const does not overlap another of the same call; and nobody else uses the buffers meanwhile.
- * Nothing outside the buffers is written, and what a function leaves is settled for every input. Launch, a store and a mark change no byte unless they
- * answer 0; a call changes none if it answers 1 or 3.
+ * Nothing outside the buffers is written, and what a function leaves is settled for every input. Launch, a store, a mark, monitor_announce and
+ * monitor_discover change no byte unless they answer 0; a call changes none if it answers 1 or 3.
  */
 #ifndef MONITOR_H
 #define MONITOR_H
@@ -35,6 +38,21 @@ enum {
 enum {
     MONITOR_DONE = 0,
     MONITOR_REFUSED = 1
+};
+
+/*
+ * What monitor_announce and monitor_discover answer. Where more than one refusal would fit, it is the one that is tested first: in both a length (7) before all
+ * others, and 1 to 5 in this order; no monitor (6) is tested after them by monitor_announce, and before them by monitor_discover.
+ */
+enum {
+    MONITOR_TOLD = 0,           /* it is written, or read */
+    MONITOR_UNALIGNED_BASE = 1, /* the base is not a multiple of 4,096 */
+    MONITOR_UNALIGNED_SIZE = 2, /* the size is not a multiple of 4,096 */
+    MONITOR_UNALIGNED_AREA = 3, /* the area is not a multiple of 4,096 */
+    MONITOR_PAST_END = 4,       /* the range passes the end of 64-bit addresses: base plus size is above 2^64 */
+    MONITOR_AREA_INSIDE = 5,    /* the area is inside the range: at the base or above it, and below base plus size */
+    MONITOR_NO_MONITOR = 6,     /* the size is 0, which means no monitor */
+    MONITOR_WRONG_LENGTH = 7    /* the page is not 4,096 bytes, or the fields are not 32 */
 };
 
 /*
@@ -86,6 +104,27 @@ uint32_t monitor_call(uint8_t *memory, size_t memory_length,
                       uint8_t *table, size_t table_length,
                       uint8_t *sheet, size_t sheet_length,
                       uint8_t *registers, size_t registers_length, size_t caller);
+
+/*
+ * Writes where the monitor is into a secrets page of 4,096 bytes, for the firmware.
+ *
+ * base is the address where the monitor's pages start, size how many bytes they are, area the address of the startup vCPU's calling area, vmpl the guest's VMPL
+ * (any is taken). After a launch that answered MONITOR_MADE they are 4,096 x monitor_first, 4,096 x monitor_count, 4,096 x calling_page and byte +1 of record 0.
+ *
+ * Where it answers MONITOR_TOLD, bytes 0x140 to 0x15F of the page are base, size and area (eight bytes each), the version 1 (four), vmpl (one) and three of 0,
+ * little-endian; the other 4,064 are as they were, the keys of VMPL 0 among them: to clear those is the host's part.
+ */
+uint32_t monitor_announce(uint8_t *page, size_t page_length,
+                          uint64_t base, uint64_t size, uint64_t area, uint8_t vmpl);
+
+/*
+ * Reads from a secrets page of 4,096 bytes where the monitor is, as firmware would.
+ *
+ * A page with size 0 is MONITOR_NO_MONITOR, whatever else stands there. Version, VMPL and the three reserved bytes are not judged. Where it answers MONITOR_TOLD,
+ * the 32 bytes of fields are bytes 0x140 to 0x15C of the page as they stand there, and three of 0.
+ */
+uint32_t monitor_discover(const uint8_t *page, size_t page_length,
+                          uint8_t *fields, size_t fields_length);
 
 #ifdef __cplusplus
 }

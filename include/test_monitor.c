@@ -1,5 +1,5 @@
-/* The core called from C: the sixteen pages of document 01, a store, a mark, each of the eight calls, and lists that are refused midway. The last line is
- * 'N passed, M failed'. */
+/* The core called from C: the sixteen pages of document 01, a store, a mark, each of the eight calls, lists that are refused midway, and the discovery fields of
+ * document 02. The last line is 'N passed, M failed'. */
 #include <stdio.h>
 #include <string.h>
 
@@ -14,6 +14,11 @@ static const uint64_t ADDRESS = 0x80000003, PARAMETER = 0x80000005, REQUEST = 0x
 /* Bytes after each buffer that nothing may write. */
 static uint8_t memory[N * PAGE + GUARD], table[N + GUARD], sheet[512 + GUARD], registers[48 + GUARD];
 static uint8_t memory_before[sizeof memory], table_before[sizeof table], sheet_before[sizeof sheet], registers_before[sizeof registers];
+
+/* A secrets page and fields, with such bytes before them too. */
+static uint8_t guarded_secrets[GUARD + PAGE + GUARD], guarded_fields[GUARD + 32 + GUARD];
+static uint8_t secrets_before[sizeof guarded_secrets], fields_before[sizeof guarded_fields];
+static uint8_t *const secrets = guarded_secrets + GUARD, *const fields = guarded_fields + GUARD;
 
 static int passed, failed;
 
@@ -338,9 +343,134 @@ static void refused_midway(void)
     check("Pvalidate refused at the third entry: two pages stand changed", handled_by(1, 7, 0x80001010));
 }
 
+/* Base, size and area, with what monitor_announce answers and what monitor_discover does where they stand in a page. */
+static const struct {
+    const char *name;
+    uint64_t base, size, area;
+    uint32_t told, read;
+} places[] = {
+    {"no fault", 0xC000, 0x4000, 0xA000, MONITOR_TOLD, MONITOR_TOLD},
+    {"base", 0xC001, 0x4000, 0xA000, MONITOR_UNALIGNED_BASE, MONITOR_UNALIGNED_BASE},
+    {"base and size", 0xC800, 0x4800, 0xA000, MONITOR_UNALIGNED_BASE, MONITOR_UNALIGNED_BASE},
+    {"size", 0xC000, 0x4001, 0xA000, MONITOR_UNALIGNED_SIZE, MONITOR_UNALIGNED_SIZE},
+    {"size and area", 0xC000, 0x4FFF, 0xAFFF, MONITOR_UNALIGNED_SIZE, MONITOR_UNALIGNED_SIZE},
+    {"area", 0xC000, 0x4000, 0xA001, MONITOR_UNALIGNED_AREA, MONITOR_UNALIGNED_AREA},
+    {"area and end", 0xFFFFFFFFFFFFC000, 0x5000, 0xA008, MONITOR_UNALIGNED_AREA, MONITOR_UNALIGNED_AREA},
+    {"end", 0xFFFFFFFFFFFFC000, 0x5000, 0xA000, MONITOR_PAST_END, MONITOR_PAST_END},
+    {"end and inside", 0xFFFFFFFFFFFFC000, 0x5000, 0xFFFFFFFFFFFFC000, MONITOR_PAST_END, MONITOR_PAST_END},
+    {"to 2^64", 0xFFFFFFFFFFFFC000, 0x4000, 0xFFFFFFFFFFFFB000, MONITOR_TOLD, MONITOR_TOLD},
+    {"inside, to 2^64", 0xFFFFFFFFFFFFC000, 0x4000, 0xFFFFFFFFFFFFF000, MONITOR_AREA_INSIDE, MONITOR_AREA_INSIDE},
+    {"inside, at the base", 0xC000, 0x4000, 0xC000, MONITOR_AREA_INSIDE, MONITOR_AREA_INSIDE},
+    {"just behind", 0xC000, 0x4000, 0x10000, MONITOR_TOLD, MONITOR_TOLD},
+    {"size 0", 0xC000, 0, 0xC000, MONITOR_NO_MONITOR, MONITOR_NO_MONITOR},
+    {"size 0 and base", 0xC001, 0, 0xA000, MONITOR_UNALIGNED_BASE, MONITOR_NO_MONITOR},
+    {"size 0 and area", 0xC000, 0, 0xA001, MONITOR_UNALIGNED_AREA, MONITOR_NO_MONITOR},
+};
+
+enum { PLACES = sizeof places / sizeof places[0] };
+
+/* Writes the fields as they stand in a page: the numbers, and after them version, VMPL and the reserved three. */
+static void put_fields(uint8_t *at, int place, uint32_t version, uint8_t vmpl, uint8_t reserved)
+{
+    put(at, places[place].base);
+    put(at + 8, places[place].size);
+    put(at + 16, places[place].area);
+    put(at + 24, (uint64_t)vmpl << 32 | version);
+    memset(at + 29, reserved, 3);
+}
+
+static void remember_secrets(void)
+{
+    memcpy(secrets_before, guarded_secrets, sizeof guarded_secrets);
+    memcpy(fields_before, guarded_fields, sizeof guarded_fields);
+}
+
+static int secrets_unchanged(void)
+{
+    return memcmp(guarded_secrets, secrets_before, sizeof guarded_secrets) == 0 && memcmp(guarded_fields, fields_before, sizeof guarded_fields) == 0;
+}
+
+/* Fills page and fields with bytes that nothing writes there. */
+static void blank_secrets(void)
+{
+    memset(guarded_secrets, 0xEE, sizeof guarded_secrets);
+    memset(guarded_fields, 0xEE, sizeof guarded_fields);
+    remember_secrets();
+}
+
+static void check_place(const char *function, int place, int holds)
+{
+    char name[64];
+
+    snprintf(name, sizeof name, "%s: %s", function, places[place].name);
+    check(name, holds);
+}
+
+static uint32_t announce(size_t length, int place, uint8_t vmpl)
+{
+    return monitor_announce(secrets, length, places[place].base, places[place].size, places[place].area, vmpl);
+}
+
+/* What is written are the 32 bytes at 0x140, where the answer is 0, and nothing else. */
+static void announcements(void)
+{
+    for (int place = 0; place < PLACES; place++) {
+        blank_secrets();
+        if (places[place].told == MONITOR_TOLD) {
+            put_fields(secrets_before + GUARD + 0x140, place, 1, 0xF3, 0);
+        }
+        check_place("announce", place, announce(PAGE, place, 0xF3) == places[place].told && secrets_unchanged());
+    }
+    blank_secrets();
+    check("announce: a page of 4,095 bytes", announce(PAGE - 1, 0, 1) == MONITOR_WRONG_LENGTH && secrets_unchanged());
+    check("announce: a page of 4,097 bytes", announce(PAGE + 1, 0, 1) == MONITOR_WRONG_LENGTH && secrets_unchanged());
+    check("announce: no page, and base and size", announce(0, 2, 1) == MONITOR_WRONG_LENGTH && secrets_unchanged());
+}
+
+/* The page stays. The fields become its own where the answer is 0, with zeros for the reserved three. */
+static void discoveries(void)
+{
+    for (int place = 0; place < PLACES; place++) {
+        blank_secrets();
+        put_fields(secrets + 0x140, place, 0xA1B2C3D4, 0x7F, 5);
+        remember_secrets();
+        if (places[place].read == MONITOR_TOLD) {
+            put_fields(fields_before + GUARD, place, 0xA1B2C3D4, 0x7F, 0);
+        }
+        check_place("discover", place, monitor_discover(secrets, PAGE, fields, 32) == places[place].read && secrets_unchanged());
+    }
+    blank_secrets();
+    put_fields(secrets + 0x140, 0, 1, 1, 0);
+    remember_secrets();
+    check("discover: a page of 4,095 bytes", monitor_discover(secrets, PAGE - 1, fields, 32) == MONITOR_WRONG_LENGTH && secrets_unchanged());
+    check("discover: a page of 4,097 bytes", monitor_discover(secrets, PAGE + 1, fields, 32) == MONITOR_WRONG_LENGTH && secrets_unchanged());
+    check("discover: 31 bytes of fields", monitor_discover(secrets, PAGE, fields, 31) == MONITOR_WRONG_LENGTH && secrets_unchanged());
+    check("discover: 33 bytes of fields", monitor_discover(secrets, PAGE, fields, 33) == MONITOR_WRONG_LENGTH && secrets_unchanged());
+    memset(secrets + 0x148, 0, 8);
+    remember_secrets();
+    check("discover: a page of 4,095 bytes, and size 0", monitor_discover(secrets, PAGE - 1, fields, 32) == MONITOR_WRONG_LENGTH && secrets_unchanged());
+    check("discover: no fields, and size 0", monitor_discover(secrets, PAGE, fields, 0) == MONITOR_WRONG_LENGTH && secrets_unchanged());
+}
+
+/* The values of the launch, into page 5 of the machine itself: monitor 12 to 15, calling page 10, and the VMPL of record 0. */
+static void launch_told(void)
+{
+    static const uint8_t told[32] = {0, 0xC0, 0, 0, 0, 0, 0, 0, 0, 0x40, 0, 0, 0, 0, 0, 0, 0, 0xA0, 0, 0, 0, 0, 0, 0, 1, 0, 0, 0, 1};
+
+    memset(memory + 0x5000, 0xEE, PAGE);
+    remember();
+    memcpy(memory_before + 0x5140, told, 32);
+    check("the launch is told", monitor_announce(memory + 0x5000, PAGE, 12 * PAGE, 4 * PAGE, 10 * PAGE, sheet[1]) == MONITOR_TOLD);
+    check("in the 32 bytes alone", unchanged());
+    blank_secrets();
+    memcpy(fields_before + GUARD, told, 32);
+    check("and read back", monitor_discover(memory + 0x5000, PAGE, fields, 32) == MONITOR_TOLD && secrets_unchanged() && unchanged());
+}
+
 int main(void)
 {
     launches();
+    launch_told();
     stores();
     marks();
     list_calls();
@@ -349,6 +479,8 @@ int main(void)
     query_calls();
     outcomes();
     refused_midway();
+    announcements();
+    discoveries();
     printf("%d passed, %d failed\n", passed, failed);
     return failed == 0 ? 0 : 1;
 }

@@ -1,12 +1,14 @@
-//! The rule sheet (document 01) as a plain Rust program on flat byte buffers.
+//! The rule sheet (document 01), and what the change requests (document 02) add to it, as a plain Rust program on flat byte buffers.
 //!
-//! It is written from the sheet and from nothing else, so that the core and this model can be held against each other: the tests give both the same input
-//! and compare the answers and every byte. So it aims at being read beside the sheet, in the sheet's order and with its words, and not at speed.
+//! It is written from the two documents and our readings of them (docs/DECISIONS.md), and from nothing else, so that the core and this model can be held against
+//! each other: the tests give both the same input and compare the answers and every byte. So it aims at being read beside the documents, in their order and with
+//! their words, and not at speed.
 //!
-//! The four steps take the arguments of the exported functions in the same order and answer with the sheet's numbers.
+//! Launch, store, mark, call, announce and discover take the arguments of the exported ones in the same order and answer with the documents' numbers.
 
 pub mod answers;
 pub mod call;
+pub mod discovery;
 pub mod launch;
 pub mod lists;
 pub mod machine;
@@ -15,6 +17,7 @@ pub mod steps;
 pub mod vcpus;
 
 pub use call::call;
+pub use discovery::{announce, discover};
 pub use launch::launch;
 pub use sound::sound;
 pub use steps::{mark, store};

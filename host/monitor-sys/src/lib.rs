@@ -51,4 +51,23 @@ extern "C" {
         registers_length: usize,
         caller: usize,
     ) -> u32;
+
+    /// Writes where the monitor is into a secrets page: 0 told, 1 base, 2 size, 3 area no multiple of 4,096, 4 past the end, 5 area inside, 6 no monitor,
+    /// 7 a length wrong.
+    pub fn monitor_announce(
+        page: *mut u8,
+        page_length: usize,
+        base: u64,
+        size: u64,
+        area: u64,
+        vmpl: u8,
+    ) -> u32;
+
+    /// Reads from a secrets page where the monitor is, into 32 bytes: the same answers.
+    pub fn monitor_discover(
+        page: *const u8,
+        page_length: usize,
+        fields: *mut u8,
+        fields_length: usize,
+    ) -> u32;
 }

@@ -6,8 +6,10 @@
 //! - *table*, one byte a page: bits 2:0 owner, bit 3 valid, bits 4 to 6 permission for VMPL 1 to 3;
 //! - *sheet*, 512 bytes: 16 vCPU records of 32.
 //!
+//! Beside the machine, [`announce`] tells the firmware where the monitor is, in a secrets page that it is lent, and [`discover`] reads it there.
+//!
 //! Any sizes and any numbers may be given. The functions here test nothing: refusing is the core's business, and each refusal is an answer. An answer
-//! that the rule sheet (document 01) does not know is a panic.
+//! that its document does not know is a panic: for these two the change requests (02), for the others the rule sheet (01).
 //!
 //! ```
 //! use monitor::{launch, mark, store, Launched, Plan, Verdict};
@@ -31,6 +33,10 @@
 //! ```
 
 #![warn(missing_docs)]
+
+mod discovery;
+
+pub use discovery::{announce, discover, discover_into, Discovery, Located, Place};
 
 /// What launch is given beside the buffers.
 #[derive(Clone, Copy, Debug, PartialEq, Eq, Hash)]
