@@ -1,5 +1,7 @@
 // A call, whole: the outcomes in their order, which call is made, and the last writes. `call` is public: it has no `requires`, and its promise
 // is one equation with the definition on flat bytes, over all that was lent. Nothing is assumed.
+#![tactic(auto)]
+
 pub mod handled;
 pub mod last;
 

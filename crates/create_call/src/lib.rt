@@ -1,4 +1,6 @@
 // The call Create: its checks in order, and what it makes. Nothing is assumed.
+#![tactic(auto)]
+
 ghost use Rattle.std.specs.Prelude.{◌≡◌, true, cond, not, ◌&&◌, [], ◌*◌, ◌<◌, length, get_or, set};
 ghost use Rattle.rules.specs.Words.{record_size, records, exists, lowest};
 ghost use Rattle.rules.specs.Answers.{Answered};

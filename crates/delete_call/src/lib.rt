@@ -1,4 +1,6 @@
 // The call Delete: the record that it means, its checks, and its effects in order. Nothing is assumed.
+#![tactic(auto)]
+
 ghost use Rattle.std.specs.Prelude.{◌≡◌, cond, not, ◌&&◌, [], ◌<◌, eqb, length, get_or, set};
 ghost use Rattle.rules.specs.Words.{page_size, record_size, little, without_bit};
 ghost use Rattle.rules.specs.Machine.{written, zeros, own, fields, holds, efer};

@@ -1,5 +1,7 @@
 // The discovery fields of the secrets page: their writer, and their reader for firmware. Both are public: neither has a `requires`, and each promise is one equation
 // with a definition, over all that was lent. Nothing is assumed.
+#![tactic(auto)]
+
 ghost use Rattle.std.specs.Prelude.{◌≡◌, ◌+◌, ◌≤◌, length};
 ghost use Rattle.std.proofs.lemmas.List.Edits.{sets};
 ghost use Rattle.rules.specs.Words.{page_size};

@@ -1,5 +1,7 @@
 // The door for a host written in Rust or C: numbers and byte buffers only. Each function hands over to one of `monitor`, `call` or `discovery` and answers the paper's
 // number. None has a `requires`: any size and any number is answered. Nothing is assumed.
+#![tactic(auto)]
+
 pub mod in_place;
 
 ghost use Rattle.std.specs.Prelude.{◌≡◌, length};

@@ -1,4 +1,6 @@
 // What an entry of a list does to its pages, by its wish. Nothing is assumed.
+#![tactic(auto)]
+
 ghost use Rattle.std.specs.Prelude.{◌≡◌, [], ◌<◌, length};
 ghost use Rattle.rules.specs.Words.{page_size};
 ghost use Rattle.rules.specs.Lists.{wished, cleared, carry_out_all};

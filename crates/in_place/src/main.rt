@@ -1,6 +1,8 @@
 // A caller in Rattle: it lends its registers to `door::in_place::call` as one record, and finds them changed where they lie. It makes a machine of three
 // pages and asks a Query. `lent` is proved to give what the call gives; for the rest the program promises nothing, and what it writes is held to the file
 // stdout beside src. Nothing is assumed but what the C library's write does.
+#![tactic(auto)]
+
 ghost use Rattle.rules.specs.Flat.{buffers};
 ghost use Rattle.rules.specs.Promises.{CallPromise};
 

@@ -1,4 +1,6 @@
 // 1 Pvalidate and 4 Deposit: the head of a list, and the run over its entries. Nothing is assumed.
+#![tactic(auto)]
+
 ghost use Rattle.std.specs.Prelude.{◌≡◌, ◌+◌, min};
 ghost use Rattle.rules.specs.Words.{entries_a_call};
 ghost use Rattle.rules.specs.Answers.{Answered, entry_code};

@@ -1,4 +1,6 @@
 // What Pvalidate, Deposit and Withdraw share: the test of a list's page. Nothing is assumed.
+#![tactic(auto)]
+
 ghost use Rattle.std.specs.Prelude.{◌≡◌};
 ghost use Rattle.rules.specs.Lists.{bad_list_page};
 ghost use Rattle.laws.specs.Alone.{table_alone};

@@ -1,5 +1,7 @@
 // Pages: the table byte, guest memory, the pool in the table, the test of a page, and the fields of a VMSA page. Each function is proved against a
 // definition of `rules`. Nothing is assumed.
+#![tactic(auto)]
+
 pub mod byte;
 pub mod memory;
 pub mod pool;

@@ -1,5 +1,7 @@
 // A slice as parts of one size, the pages of memory or the records of the sheet: bytes and numbers in a part, read and written. What is done to
 // the slice is said of its parts, once for every size. Nothing is assumed.
+#![tactic(auto)]
+
 ghost use Rattle.std.specs.Prelude.{◌≡◌, [], ◌∷◌, ◌≤◌, length, get_or};
 ghost use Rattle.std.proofs.lemmas.List.Edits.{sets};
 ghost use Rattle.rules.specs.Words.{little, number};

@@ -1,4 +1,6 @@
 // The calls that look at RCX alone: Query and vTOM. Nothing is assumed.
+#![tactic(auto)]
+
 ghost use Rattle.std.specs.Prelude.{◌≡◌};
 ghost use Rattle.rules.specs.Answers.{Answered};
 ghost use Rattle.rules.specs.Calls.{query, configure, vtom};

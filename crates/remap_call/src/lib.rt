@@ -1,4 +1,6 @@
 // 0 Remap: the caller's calling area moves to another page. Nothing is assumed.
+#![tactic(auto)]
+
 ghost use Rattle.std.specs.Prelude.{◌≡◌, cond, not, ◌&&◌, ◌<◌, eqb, length};
 ghost use Rattle.rules.specs.Answers.{Answered};
 ghost use Rattle.rules.specs.Calls.{remap, remapped};

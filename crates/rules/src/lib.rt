@@ -1,9 +1,10 @@
 // What a reader must believe, first half: the types that cross crates. The second half, the rule sheet and the requests that have landed as definitions, is in specs/.
 // Each answer is an enum of its own; specs/Answers.antt gives the paper's number for each of its cases, specs/Discovery.antt for those of `Located`.
 // There is no code here, and nothing is assumed.
+#![tactic(auto)]
 
 // Registers: RAX, RCX, RDX, R8, R9, and the exit reason from the VMSA.
-#[derive(Drop)]
+#[derive(Clone, Copy)]
 pub struct Registers {
     pub rax: u64,
     pub rcx: u64,
@@ -14,7 +15,7 @@ pub struct Registers {
 }
 
 // A record of the vCPU sheet: its fields in their order.
-#[derive(Drop)]
+#[derive(Clone, Copy)]
 pub struct Vcpu {
     pub live: u8,
     pub vmpl: u8,
@@ -29,7 +30,7 @@ pub struct Vcpu {
 }
 
 // What launch is given besides N: the monitor's first page and count, startup VMSA page, calling page, APIC ID, and V.
-#[derive(Drop)]
+#[derive(Clone, Copy)]
 pub struct Plan {
     pub first: usize,
     pub count: usize,
@@ -40,7 +41,7 @@ pub struct Plan {
 }
 
 // What a call comes back with.
-#[derive(Drop)]
+#[derive(Clone, Copy)]
 pub enum Outcome {
     Handled,
     NoCall,
@@ -49,7 +50,7 @@ pub enum Outcome {
 }
 
 // The code of a call that was handled.
-#[derive(Drop)]
+#[derive(Clone, Copy)]
 pub enum Code {
     Success,
     OneMorePage,
@@ -66,7 +67,7 @@ pub enum Code {
 }
 
 // What launch answers.
-#[derive(Drop)]
+#[derive(Clone, Copy)]
 pub enum Launched {
     Made,
     WrongSize,
@@ -76,21 +77,21 @@ pub enum Launched {
 }
 
 // What a store or a mark answers.
-#[derive(Drop)]
+#[derive(Clone, Copy)]
 pub enum Verdict {
     Done,
     Refused,
 }
 
 // The two calls that work through a list of entries.
-#[derive(Drop)]
+#[derive(Clone, Copy)]
 pub enum ListCall {
     Pvalidate,
     Deposit,
 }
 
 // What an entry wishes for the pages that it covers: invalid or valid (Pvalidate), or in the pool (Deposit).
-#[derive(Drop)]
+#[derive(Clone, Copy)]
 pub enum Wish {
     Invalid,
     Valid,
@@ -98,7 +99,7 @@ pub enum Wish {
 }
 
 // An entry either reads cleanly into its range and wish, or is refused with a code.
-#[derive(Drop)]
+#[derive(Clone, Copy)]
 pub enum Entry {
     Reads {
         first: usize,
@@ -109,7 +110,7 @@ pub enum Entry {
 }
 
 // The discovery fields of the secrets page: SVSM_BASE, SVSM_SIZE, SVSM_CAA, SVSM_MAX_VERSION and SVSM_GUEST_VMPL.
-#[derive(Drop)]
+#[derive(Clone, Copy)]
 pub struct Discovery {
     pub base: u64,
     pub size: u64,
@@ -119,7 +120,7 @@ pub struct Discovery {
 }
 
 // What the writer and the reader of the discovery fields answer.
-#[derive(Drop)]
+#[derive(Clone, Copy)]
 pub enum Located {
     Told,
     UnalignedBase,

@@ -1,5 +1,7 @@
 // The vCPU sheet: its limits, where the fields of a record stand, a whole record, the search of live records, and the shape test of outcome 3.
 // Nothing is assumed.
+#![tactic(auto)]
+
 pub mod live;
 pub mod record;
 pub mod shape;

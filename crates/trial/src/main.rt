@@ -2,6 +2,8 @@
 // step has what is asked, what the paper says comes of it, and what came of it; the last line counts the steps that came out as the paper says. It promises
 // nothing of its own but the marks of its map; what it writes is held to the file stdout beside src. Nothing is assumed but what the C library's read and
 // write do.
+#![tactic(auto)]
+
 mod guest;
 mod line;
 mod show;

@@ -1,4 +1,6 @@
 // 5 Withdraw: the head's checks in order, and the free pool pages that are given back. Nothing is assumed.
+#![tactic(auto)]
+
 ghost use Rattle.std.specs.Prelude.{◌≡◌, [], ◌∷◌, ◌<◌, length, get_or, take};
 ghost use Rattle.rules.specs.Words.{places};
 ghost use Rattle.rules.specs.Answers.{Answered};

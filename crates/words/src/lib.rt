@@ -1,5 +1,7 @@
 // Little-endian numbers in a slice: 2, 4 and 8 bytes, read and written. A wider number is two of half its width, so that the proofs of each
 // width cite one law. Nothing is assumed.
+#![tactic(auto)]
+
 ghost use Rattle.std.specs.Prelude.{◌≡◌, [], ◌∷◌, ◌++◌, ◌+◌, ◌<◌, ◌≤◌, length};
 ghost use Rattle.std.proofs.lemmas.List.Edits.{sets};
 ghost use Rattle.rules.specs.Words.{number, little};

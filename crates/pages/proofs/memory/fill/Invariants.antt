@@ -1,0 +1,15 @@
+-- The loop's invariant: what was passed is zeros, and the rest is as it was. The measure is the rest's length.
+use mathlib.Core.Path.{◌≡◌, refl, ◌∙◌}
+use mathlib.Core.List.{◌++◌, append-nil}
+use Prim.Native.Nat.{◌-◌, ◌≤◌, zero-le}
+use native.Mathlib.Omega.{arith}
+use lib.ListN.{length, drop, replicate, length-set, drop_of_length-le}
+use borrow.Author.Fill.{fill_more}
+use Rattle.rules.specs.Machine.{zeros}
+use Rattle.pages.proofs.memory.fill.Given as goal
+
+abbrev pub invariant-loop-i : goal.invariant-loop-i
+invariant-loop-i l = (l.part ≡ replicate l.i 0 ++ drop l.i l.initial.part) × (length l.part ≡ length l.initial.part) × (l.i ≤ length l.initial.part)
+
+abbrev pub decreases-loop-i : goal.decreases-loop-i
+decreases-loop-i l = length l.initial.part - l.i
