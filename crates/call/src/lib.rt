@@ -37,7 +37,7 @@ pub fn number_of(code: Code) -> u64
 }
 
 // What a call comes back with, and the registers after it.
-#[derive(Drop)]
+#[derive(Clone, Copy)]
 pub struct Called {
     pub outcome: Outcome,
     pub registers: Registers,

@@ -15,7 +15,7 @@ pub fn queried(rcx: u64) -> u64
 }
 
 // The code of vTOM, and RCX after it.
-#[derive(Drop)]
+#[derive(Clone, Copy)]
 pub struct Told {
     pub code: Code,
     pub rcx: u64,

@@ -7,7 +7,7 @@ use libc::STDOUT_FILENO;
 use rules::{Launched, Outcome, Registers};
 
 // The steps so far, and how many of them came out as the paper says.
-#[derive(Drop)]
+#[derive(Clone, Copy)]
 pub struct Tally {
     pub steps: u64,
     pub right: u64,

@@ -1,0 +1,58 @@
+use mathlib.Core.Path.{◌≡◌, refl, ◌∙◌, ap}
+use mathlib.Core.Logic.{⊎_elim}
+use mathlib.Core.List.{[]}
+use Prim.Native.Nat.{◌-◌, ◌≤◌, ◌<◌, zero-le}
+use native.Mathlib.Omega.{arith}
+use lib.Dec.{lit≤}
+use lib.ListN.{length, take}
+use lib.Seq.{take_all}
+use borrow.Author.Tests.{eq-eqb, ne_eqb}
+use Rattle.rules.specs.Words.{records, record_size}
+use Rattle.rules.specs.Machine.{is_live, fields}
+use Rattle.rules.specs.Flat.{parts}
+use Rattle.laws.specs.Marks.{marks}
+use Rattle.laws.proofs.Marks.{marks_set, marks_left}
+use Rattle.sheet.proofs.At.{at, rows_of}
+use Rattle.create_call.proofs.live_marks.Goals as goal
+
+pub loop-i-init : goal.loop-i-init
+unfolding marks
+loop-i-init c = (zero-le, refl)
+
+pub byte-live-requires : goal.byte-live-requires
+unfolding records
+byte-live-requires c = at (record { sized = c.requires; below = omega arith }) _ _ (lit≤ tt)
+
+pub overflow_shl-marks : goal.overflow_shl-marks
+unfolding records
+overflow_shl-marks c = omega arith
+
+pub overflow_add-i : goal.overflow_add-i
+unfolding records
+overflow_add-i c = omega arith
+
+pub loop-i-smaller : goal.loop-i-smaller
+unfolding records
+loop-i-smaller c = omega arith
+
+pub loop-i-preserved : goal.loop-i-preserved
+unfolding records is_live fields record_size
+loop-i-preserved c =
+    let sheet = c.args.sheet.now in
+    let rows = parts record_size sheet in
+    let i = c.loop-i.i in
+    let below : i < length rows = omega (arith, rows_of sheet c.requires) in
+    let live = c.byte-live.ensures in (
+      omega arith,
+      ⊎_elim
+          (λ w. w.1 ∙ rw c.loop-i.invariant.1 (marks_set is_live rows i [] below 64 (omega arith) (rw (← live, eq-eqb _ 1 w.0.taken))))
+          (λ w. w.1 ∙ rw c.loop-i.invariant.1 (marks_left is_live rows i [] below (rw (← live, ne_eqb _ 1 w.0.left))))
+          c.if-live-eq1.branch,
+    )
+
+pub returns : goal.returns
+unfolding records
+returns c =
+    let sheet = c.args.sheet.now in
+    let all = take_all c.loop-i.i (parts record_size sheet) (omega (arith, rows_of sheet c.requires)) in
+    c.loop-i.invariant.1 ∙ ap (marks is_live) all

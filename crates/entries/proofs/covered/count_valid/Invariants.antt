@@ -1,0 +1,16 @@
+-- The loop's invariant: the pages passed are counted. The measure is the number of pages left.
+use mathlib.Core.Path.{◌≡◌, refl, sym, ap₂, ◌∙◌}
+use Prim.Native.Nat.{◌+◌, ◌-◌, ◌≤◌, zero-le}
+use native.Mathlib.Omega.{arith}
+use native.Mathlib.Numerals.{add-one}
+use Rattle.rules.specs.Words.{range, count}
+use Rattle.laws.proofs.Ranges.{length_range}
+use Rattle.laws.proofs.Counts.{count_more, count_le_length}
+use Rattle.entries.specs.Reading.{valid_at}
+use Rattle.entries.proofs.covered.count_valid.Given as goal
+
+abbrev pub invariant-loop-i : goal.invariant-loop-i
+invariant-loop-i l = (l.i ≤ l.n) × (l.found ≡ count (valid_at l.table) (range l.first l.i))
+
+abbrev pub decreases-loop-i : goal.decreases-loop-i
+decreases-loop-i l = l.n - l.i

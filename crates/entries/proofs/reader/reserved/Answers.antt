@@ -1,0 +1,11 @@
+use Rattle.rules.specs.Words.{bits}
+use Rattle.rules.specs.Lists.{reserved_bits}
+use Rattle.entries.proofs.reader.reserved.Goals as goal
+
+pub returns-in-Pvalidate : goal.returns-in-Pvalidate
+unfolding reserved_bits bits
+returns-in-Pvalidate c = rw c.enum_told-1.given.1
+
+pub returns-in-Deposit : goal.returns-in-Deposit
+unfolding reserved_bits bits
+returns-in-Deposit c = rw c.enum_told-in-Deposit-1.given.1
