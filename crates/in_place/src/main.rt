@@ -7,20 +7,18 @@ ghost use Rattle.rules.specs.Flat.{buffers};
 ghost use Rattle.rules.specs.Promises.{CallPromise};
 
 use call::Called;
-use libc::STDOUT_FILENO;
 use rules::{Launched, Outcome, Plan, Registers};
+use std::io::{self, Print, Stdout};
 
 const QUERY: u64 = 6;
 
-fn say(text: &[u8]) {
-    io::write_all(STDOUT_FILENO, text);
+fn say(out: Stdout, text: &[u8]) -> io::Result<()> {
+    out.write_all(text)
 }
 
-fn register(name: &[u8], n: u64) {
-    say(name);
-    say(b" 0x");
-    io::print_hex(STDOUT_FILENO, n, 9);
-    say(b"\n");
+fn register(out: Stdout, name: &[u8], n: u64) -> io::Result<()> {
+    say(out, name)?;
+    println!(out; " 0x{n:09x}")
 }
 
 // The registers are lent, and the record that was lent is handed out: the promise is again the one of `call::call`. A function that makes a reference to
@@ -46,7 +44,8 @@ fn lent(
     Called { outcome, registers }
 }
 
-fn main() {
+fn main(rt: HostRuntime) -> io::Result<()> {
+    let out = rt.stdout();
     // Three blank pages; VMPL 1 and EFER bit 12 make page 1 a VMSA that launch takes. Page 0 is the calling page, and page 2 the monitor's.
     let mut memory = [0u8; 12288];
     let mut table = [0u8; 3];
@@ -63,7 +62,7 @@ fn main() {
     };
     match monitor::launch::launch(&mut memory, &mut table, &mut sheet, 3, plan) {
         Launched::Made => {}
-        _ => say(b"The machine is not made.\n"),
+        _ => say(out, b"The machine is not made.\n")?,
     }
     memory[0] = 1;
     let g = Registers {
@@ -78,9 +77,9 @@ fn main() {
     let outcome = called.outcome;
     let after = called.registers;
     match outcome {
-        Outcome::Handled => say(b"Query with RCX 1: handled. The record that was lent now has\n"),
-        _ => say(b"Query with RCX 1: not handled.\n"),
+        Outcome::Handled => say(out, b"Query with RCX 1: handled. The record that was lent now has\n")?,
+        _ => say(out, b"Query with RCX 1: not handled.\n")?,
     }
-    register(b"RAX", after.rax);
-    register(b"RCX", after.rcx);
+    register(out, b"RAX", after.rax)?;
+    register(out, b"RCX", after.rcx)
 }

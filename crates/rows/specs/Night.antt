@@ -1,6 +1,7 @@
 -- How a table of rows is read. A row goes on from the machine that the row above it left: first the guest, at VMPL 1, stores some bytes; then
 -- comes a launch or a call; then the answer, bytes of memory and bytes of the table are compared with what is expected, and the machine has to be sound.
-use Rattle.rules.specs.Words.{ℕ, zero, suc, cond, ◌/◌, ◌%◌, ◌^◌, Bool, true, false, ◌&&◌, List, [], ◌∷◌, eqb, length, take, drop, every}
+use Rattle.std.specs.Prelude.{ℕ, zero, suc, cond, ◌/◌, ◌%◌, ◌^◌, Bool, true, false, ◌&&◌, List, [], ◌∷◌, eqb, length, take, drop}
+use Rattle.rules.specs.Words.{every}
 use Rattle.rules.specs.declared.Registers.{Registers}
 use Rattle.rules.specs.Answers.{outcome_number, launched_number}
 use Rattle.rules.specs.Machine.{Machine, page_of, offset_of, page_at, vcpu}

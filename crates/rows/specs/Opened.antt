@@ -1,6 +1,7 @@
 -- What a row comes to, opened: for each module of `rules`, and for the rows' own, one name that stands for all that a proof by computing has to see through.
 -- A new definition of `rules` that a step comes to is added to its module's name here.
-use Rattle.rules.specs.Words.{ℕ, page_size, least_pages, most_pages, records, record_size, records_without_pool, entries_a_call, large, registers_size}
+use Rattle.std.specs.Prelude.{ℕ}
+use Rattle.rules.specs.Words.{page_size, least_pages, most_pages, records, record_size, records_without_pool, entries_a_call, large, registers_size}
 use Rattle.rules.specs.Words.{between, multiple, bits, bit, with_bit, without_bit, little, number, range, every, exists, count, lowest, places, each}
 use Rattle.rules.specs.Answers.{outcome_number, code_number, launched_number, refuse, numbered}
 use Rattle.rules.specs.Machine.{with_lent, N, below, page_of, offset_of, page_at, with_memory, written, write, zeros, fill, owner, valid, permitted}

@@ -1,7 +1,8 @@
 -- The rows of "Sixteen pages", in the paper's order, those marked * and then the three that are not: "Monitor 12 to 15, VMSA 11, calling 10, V 8, VMPL 1."
 -- Last comes one that the paper has no row for, a vCPU that deletes itself, so that every outcome of a real call stands in the table.
 -- The memory is blank but for the two bytes of the VMSA page that launch wants: its VMPL, and EFER bit 12.
-use Rattle.rules.specs.Words.{ℕ, zero, suc, List, [], ◌∷◌, ◌++◌, replicate, set, page_size, records, record_size}
+use Rattle.std.specs.Prelude.{ℕ, zero, suc, List, [], ◌∷◌, ◌++◌, replicate, set}
+use Rattle.rules.specs.Words.{page_size, records, record_size}
 use Rattle.rules.specs.Machine.{Machine, zeros}
 use Rattle.rules.specs.declared.Plan.{Plan}
 use Rattle.rows.specs.Night.{hex, Placed, Event, launches, asks, Row}

@@ -1,5 +1,5 @@
 -- The types that cross crates; the paper's number for each case of each answer, and how an answer is given. Those of the discovery fields are in Discovery.
-use Rattle.rules.specs.Words.{ℕ, Bool, cond}
+use Rattle.std.specs.Prelude.{ℕ, Bool, cond}
 pub use Rattle.rules.specs.declared.Registers.{Registers}
 pub use Rattle.rules.specs.declared.Vcpu.{Vcpu}
 pub use Rattle.rules.specs.declared.Plan.{Plan}

@@ -1,5 +1,6 @@
 -- "What a call comes back with": the four outcomes in their order, the tests of RAX, the last writes.
-use Rattle.rules.specs.Words.{ℕ, Bool, cond, not, ◌||◌, List, [], ◌∷◌, leb, eqb, get_or, records, entries_a_call, bits, exists}
+use Rattle.std.specs.Prelude.{ℕ, Bool, cond, not, ◌||◌, List, [], ◌∷◌, leb, eqb, get_or}
+use Rattle.rules.specs.Words.{records, entries_a_call, bits, exists}
 use Rattle.rules.specs.Answers.{Registers, Outcome, Handled, NoCall, Gone, BadMachine, Code, Success, UnknownProtocol, UnknownCall, BadPending}
 use Rattle.rules.specs.Answers.{Pvalidate, Deposit, code_number, Answered, refuse}
 use Rattle.rules.specs.Machine.{Lent, Machine, with_lent, ◌▷◌, N, page_at, write, is_live, record_at, vcpu, startup}

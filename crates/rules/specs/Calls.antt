@@ -1,5 +1,6 @@
 -- "The eight calls, checks in order": all but Pvalidate and Deposit, which are in Lists.
-use Rattle.rules.specs.Words.{ℕ, ◌+◌, ◌-◌, ◌*◌, ◌/◌, Bool, cond, not, ◌&&◌, ◌||◌, List, [], ◌∷◌, ◌++◌, leb, ltb, eqb, length, take, sets}
+use Rattle.std.specs.Prelude.{ℕ, ◌+◌, ◌-◌, ◌*◌, ◌/◌, Bool, cond, not, ◌&&◌, ◌||◌, List, [], ◌∷◌, ◌++◌, leb, ltb, eqb, length, take}
+use Rattle.std.proofs.lemmas.List.Edits.{sets}
 use Rattle.rules.specs.Words.{page_size, record_size, multiple, bits, bit, without_bit, little, exists, lowest, places, each}
 use Rattle.rules.specs.Answers.{Vcpu, Code, Success, OneMorePage, Address, Parameter, Request, InUse, Answered, refuse}
 use Rattle.rules.specs.Machine.{Lent, ◌▷◌, page_of, offset_of, page_at, write, zeros, owner, plain, calling_area, pool_free, pool_in_use}

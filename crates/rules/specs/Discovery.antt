@@ -1,5 +1,7 @@
 -- Request 2026-01, "Tell the firmware where we are": the discovery fields of the secrets page (document 000, table 1), their writer, and their reader for firmware.
-use Rattle.rules.specs.Words.{ℕ, ◌+◌, ◌^◌, Bool, not, ◌&&◌, List, [], ◌∷◌, ◌++◌, leb, ltb, eqb, length, get_or, sets, page_size, multiple, little, number}
+use Rattle.std.specs.Prelude.{ℕ, ◌+◌, ◌^◌, Bool, not, ◌&&◌, List, [], ◌∷◌, ◌++◌, leb, ltb, eqb, length, get_or}
+use Rattle.std.proofs.lemmas.List.Edits.{sets}
+use Rattle.rules.specs.Words.{page_size, multiple, little, number}
 use Rattle.rules.specs.Answers.{Answered, refuse}
 pub use Rattle.rules.specs.declared.Discovery.{Discovery}
 pub use Rattle.rules.specs.declared.Located.{Located}

@@ -1,6 +1,7 @@
 -- "A host written in Rust or C calls the core with numbers and byte buffers only": the definitions that public promises cite. Each tests
 -- the sizes of what it is lent, gives everything back unchanged where one is wrong, and else hands over to the definition on pages.
-use Rattle.rules.specs.Words.{ℕ, zero, suc, ◌*◌, ◌/◌, Bool, not, ◌&&◌, List, [], ◌∷◌, ◌++◌, eqb, length, take, drop, page_size, least_pages}
+use Rattle.std.specs.Prelude.{ℕ, zero, suc, ◌*◌, ◌/◌, Bool, not, ◌&&◌, List, [], ◌∷◌, ◌++◌, eqb, length, take, drop}
+use Rattle.rules.specs.Words.{page_size, least_pages}
 use Rattle.rules.specs.Words.{most_pages, records, record_size, registers_size, between, little, number}
 use Rattle.rules.specs.Answers.{Registers, Plan, Outcome, BadMachine, Launched, WrongSize, Verdict, Refused, Answered, refuse}
 use Rattle.rules.specs.Machine.{Lent, Machine, machine_of}

@@ -1,5 +1,6 @@
 -- "Launch."
-use Rattle.rules.specs.Words.{ℕ, ◌+◌, ◌-◌, Bool, cond, not, ◌&&◌, ◌||◌, List, [], ◌∷◌, map, leb, ltb, eqb, replicate, records, record_size}
+use Rattle.std.specs.Prelude.{ℕ, ◌+◌, ◌-◌, Bool, cond, not, ◌&&◌, ◌||◌, List, [], ◌∷◌, map, leb, ltb, eqb, replicate}
+use Rattle.rules.specs.Words.{records, record_size}
 use Rattle.rules.specs.Words.{between, bit, range}
 use Rattle.rules.specs.Answers.{Plan, Launched, Made, OutOfRange, AreasMeet, UnfitVmsa, Answered, refuse}
 use Rattle.rules.specs.Machine.{Lent, Machine, machine_of, N, page_at, write, zeros, laid_out, vmsa_vmpl, vmsa_features, efer}

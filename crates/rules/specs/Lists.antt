@@ -1,5 +1,6 @@
 -- "1 Pvalidate, 4 Deposit", and the list page that Withdraw shares with them.
-use Rattle.rules.specs.Words.{ℕ, zero, suc, ◌+◌, ◌-◌, ◌*◌, min, Bool, cond, not, ◌&&◌, ◌||◌, List, leb, ltb, eqb, page_size, large, multiple}
+use Rattle.std.specs.Prelude.{ℕ, zero, suc, ◌+◌, ◌-◌, ◌*◌, min, Bool, cond, not, ◌&&◌, ◌||◌, List, leb, ltb, eqb}
+use Rattle.rules.specs.Words.{page_size, large, multiple}
 use Rattle.rules.specs.Words.{bits, bit, little, number, range, every, each}
 use Rattle.rules.specs.Answers.{Code, Success, Incomplete, Address, Parameter, SizeMismatch, NoChange, Entry, Reads, Unread, ListCall}
 use Rattle.rules.specs.Answers.{Pvalidate, Deposit, Wish, Invalid, Valid, Pool, Answered, refuse}

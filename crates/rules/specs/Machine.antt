@@ -1,6 +1,7 @@
 -- "The machine as it is lent": memory as pages, the page table's bytes, the vCPU sheet as records.
 -- All is total: what lies outside reads as zeros, and a write there changes nothing.
-use Rattle.rules.specs.Words.{ℕ, ◌+◌, ◌*◌, ◌/◌, ◌%◌, Bool, cond, ◌&&◌, List, [], ◌∷◌, ◌++◌, leb, ltb, eqb, length, get_or, set, replicate, sets}
+use Rattle.std.specs.Prelude.{ℕ, ◌+◌, ◌*◌, ◌/◌, ◌%◌, Bool, cond, ◌&&◌, List, [], ◌∷◌, ◌++◌, leb, ltb, eqb, length, get_or, set, replicate}
+use Rattle.std.proofs.lemmas.List.Edits.{sets}
 use Rattle.rules.specs.Words.{page_size, records_without_pool, between, bits, bit, with_bit, without_bit, little, number}
 use Rattle.rules.specs.Answers.{Vcpu}
 

@@ -1,7 +1,6 @@
 -- What each public function promises, by name: one equation between a definition of all that went in and what came out, the answer and every buffer and
 -- register that was lent. The code's `ensures` cite these names, and crate `safety` shows of the same names that they determine the result.
-use Rattle.std.specs.Prelude.{◌≡◌}
-use Rattle.rules.specs.Words.{ℕ, List}
+use Rattle.std.specs.Prelude.{◌≡◌, ℕ, List}
 use Rattle.rules.specs.Answers.{Registers, Plan, Outcome, Launched, Verdict, outcome_number, launched_number, verdict_number, Answered, numbered}
 use Rattle.rules.specs.Call.{Posed}
 use Rattle.rules.specs.Flat.{Buffers, launch_bytes, store_bytes, mark_bytes, call_bytes, door_bytes}

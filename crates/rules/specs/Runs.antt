@@ -1,5 +1,6 @@
 -- Steps and runs on a machine of right size, and the pages that a step takes in and gives back.
-use Rattle.rules.specs.Words.{ℕ, ◌+◌, ◌-◌, Bool, cond, not, ◌&&◌, ◌||◌, List, [], ◌∷◌, eqb, multiple, bits, range, count}
+use Rattle.std.specs.Prelude.{ℕ, ◌+◌, ◌-◌, Bool, cond, not, ◌&&◌, ◌||◌, List, [], ◌∷◌, eqb}
+use Rattle.rules.specs.Words.{multiple, bits, range, count}
 use Rattle.rules.specs.Answers.{Registers, Outcome, outcome_number, Answered}
 use Rattle.rules.specs.Machine.{Lent, Machine, with_lent, owner, pool_free, pool_in_use}
 use Rattle.rules.specs.Steps.{store, mark}

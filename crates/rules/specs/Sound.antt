@@ -1,5 +1,6 @@
 -- "A sound machine", as the faults that a program could look for: sound is right sizes, and no page and no record at fault.
-use Rattle.rules.specs.Words.{ℕ, Bool, false, cond, not, ◌&&◌, ◌||◌, List, [], ◌∷◌, ◌++◌, leb, ltb, eqb, length, page_size, least_pages}
+use Rattle.std.specs.Prelude.{ℕ, Bool, false, cond, not, ◌&&◌, ◌||◌, List, [], ◌∷◌, ◌++◌, leb, ltb, eqb, length}
+use Rattle.rules.specs.Words.{page_size, least_pages}
 use Rattle.rules.specs.Words.{most_pages, records, record_size, between, bits, range, every, count}
 use Rattle.rules.specs.Answers.{Vcpu}
 use Rattle.rules.specs.Machine.{Lent, N, owner, plain, calling_area, monitor, pool_free, pool_in_use, vmsa_area, valid, permitted, table_byte}

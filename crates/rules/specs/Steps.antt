@@ -1,5 +1,6 @@
 -- "Other steps": the store and the mark.
-use Rattle.rules.specs.Words.{ℕ, ◌+◌, Bool, not, ◌&&◌, List, leb, ltb, length, set, page_size, records}
+use Rattle.std.specs.Prelude.{ℕ, ◌+◌, Bool, not, ◌&&◌, List, leb, ltb, length, set}
+use Rattle.rules.specs.Words.{page_size, records}
 use Rattle.rules.specs.Answers.{Verdict, Done, Refused, Answered, refuse}
 use Rattle.rules.specs.Machine.{Lent, below, write, valid, permitted, table_byte, is_live, record_at, amend}
 

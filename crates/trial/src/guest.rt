@@ -2,43 +2,62 @@
 use crate::{line, show};
 use call::Called;
 use rules::{Launched, Plan, Registers, Verdict};
+use std::io::{self, Stdout};
 
 // The night has no store and no mark that is refused; it would be seen.
-fn seen(verdict: Verdict) {
+fn seen(out: Stdout, verdict: Verdict) -> io::Result<()> {
     match verdict {
-        Verdict::Done => {}
-        Verdict::Refused => show::say(b"A store or a mark is refused.\n"),
+        Verdict::Done => Ok(()),
+        Verdict::Refused => show::say(out, b"A store or a mark is refused.\n"),
     }
 }
 
 // A store at a gPA.
-fn store(memory: &mut [u8; 65536], table: &[u8; 16], gpa: usize, bytes: &[u8]) {
-    seen(monitor::steps::store(memory, table, 1, gpa / 4096, gpa % 4096, bytes));
+fn store(
+    out: Stdout,
+    memory: &mut [u8; 65536],
+    table: &[u8; 16],
+    gpa: usize,
+    bytes: &[u8],
+) -> io::Result<()> {
+    seen(out, monitor::steps::store(memory, table, 1, gpa / 4096, gpa % 4096, bytes))
 }
 
 // A number of eight bytes.
-fn put(memory: &mut [u8; 65536], table: &[u8; 16], gpa: usize, n: usize) {
+fn put(
+    out: Stdout,
+    memory: &mut [u8; 65536],
+    table: &[u8; 16],
+    gpa: usize,
+    n: usize,
+) -> io::Result<()> {
     let low = (n % 256) as u8;
     let high = (n / 256 % 256) as u8;
-    store(memory, table, gpa, &[low, high, 0, 0, 0, 0, 0, 0]);
+    store(out, memory, table, gpa, &[low, high, 0, 0, 0, 0, 0, 0])
 }
 
 // A number, and an entry after it again and again.
-pub fn write(memory: &mut [u8; 65536], table: &[u8; 16], text: &[u8]) {
+pub fn write(
+    out: Stdout,
+    memory: &mut [u8; 65536],
+    table: &[u8; 16],
+    text: &[u8],
+) -> io::Result<()> {
     let gpa = line::field(text, 0);
     let entry = line::field(text, 2);
     let count = line::field(text, 3);
-    put(memory, table, gpa, line::field(text, 1));
+    put(out, memory, table, gpa, line::field(text, 1))?;
     let mut done = 0;
     while done < count {
         done += 1;
-        put(memory, table, gpa + 8 * done, entry);
+        put(out, memory, table, gpa + 8 * done, entry)?;
     }
+    Ok(())
 }
 
 // A record is marked as running.
-pub fn runs(sheet: &mut [u8; 512], text: &[u8]) {
-    seen(monitor::steps::mark(sheet, line::field(text, 0), 1));
+pub fn runs(out: Stdout, sheet: &mut [u8; 512], text: &[u8]) -> io::Result<()> {
+    seen(out, monitor::steps::mark(sheet, line::field(text, 0), 1))
 }
 
 fn plan(text: &[u8]) -> Plan {
@@ -74,12 +93,13 @@ fn asked(text: &[u8]) -> Registers {
 
 // A call by a record, whose pending byte is set first.
 pub fn call(
+    out: Stdout,
     memory: &mut [u8; 65536],
     table: &mut [u8; 16],
     sheet: &mut [u8; 512],
     text: &[u8],
-) -> Called {
+) -> io::Result<Called> {
     let caller = line::field(text, 4);
-    store(memory, table, show::calling(sheet, caller), &[1]);
-    call::call(memory, table, sheet, asked(text), caller)
+    store(out, memory, table, show::calling(sheet, caller), &[1])?;
+    Ok(call::call(memory, table, sheet, asked(text), caller))
 }

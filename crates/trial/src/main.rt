@@ -8,57 +8,79 @@ mod guest;
 mod line;
 mod show;
 
-use libc::STDIN_FILENO;
 use show::Tally;
+use std::io::{self, Read, Stdin, Stdout};
 
 // What a line of the script does to the machine. A launch and a call put their answer in the line that is found.
 fn act(
+    out: Stdout,
     found: &mut [u8; 128],
     memory: &mut [u8; 65536],
     table: &mut [u8; 16],
     sheet: &mut [u8; 512],
     text: &[u8],
-) {
+) -> io::Result<()> {
     match line::byte(text, 0) {
-        b'w' => guest::write(memory, table, text),
-        b'r' => guest::runs(sheet, text),
+        b'w' => guest::write(out, memory, table, text)?,
+        b'r' => guest::runs(out, sheet, text)?,
         b's' => {
             let answer = guest::launch(memory, table, sheet, text);
             show::launched(found, answer);
         }
         b'c' => {
-            let called = guest::call(memory, table, sheet, text);
+            let called = guest::call(out, memory, table, sheet, text)?;
             let outcome = called.outcome;
             show::answered(found, line::field(text, 0), outcome, called.registers);
         }
         _ => {}
     }
+    Ok(())
 }
 
 // Line by line through the script.
-fn walk(script: &[u8], memory: &mut [u8; 65536], table: &mut [u8; 16], sheet: &mut [u8; 512]) {
+fn walk(
+    out: Stdout,
+    script: &[u8],
+    memory: &mut [u8; 65536],
+    table: &mut [u8; 16],
+    sheet: &mut [u8; 512],
+) -> io::Result<()> {
     let mut found = [b' '; 128];
     let mut tally = Tally { steps: 0, right: 0 };
     let mut at = 0;
     while at < script.len() {
         let end = line::next(script, at);
         let text = &script[at..end];
-        act(&mut found, memory, table, sheet, text);
-        tally = show::tell(&mut found, memory, table, sheet, tally, text);
+        act(out, &mut found, memory, table, sheet, text)?;
+        tally = show::tell(out, &mut found, memory, table, sheet, tally, text)?;
         at = end;
     }
-    show::total(tally);
+    show::total(out, tally)
 }
 
-fn main() {
+// Reads until the script is full or the input ends, and gives how many bytes came.
+fn read_script(mut input: Stdin, script: &mut [u8; 65536]) -> io::Result<usize> {
+    let mut held = 0;
+    for _ in 0..script.len() {
+        let came = input.read(&mut script[held..])?;
+        if came == 0 {
+            break;
+        }
+        held += came;
+    }
+    Ok(held)
+}
+
+fn main(rt: HostRuntime) -> io::Result<()> {
     // Sixteen blank pages; VMPL 1 and EFER bit 12 make page 11 a VMSA that launch takes.
     let mut memory = [0u8; 65536];
     let mut table = [0u8; 16];
     let mut sheet = [0u8; 512];
     memory[0xB0CA] = 1;
     memory[0xB0D1] = 0x10;
-    show::legend();
-    let mut script = io::large_buffer();
-    let held = io::read_full(STDIN_FILENO, &mut script);
-    walk(&script[..held], &mut memory, &mut table, &mut sheet);
+    let out = rt.stdout();
+    show::legend(out)?;
+    let mut script = [0u8; 65536];
+    let held = read_script(rt.stdin(), &mut script)?;
+    walk(out, &script[..held], &mut memory, &mut table, &mut sheet)
 }

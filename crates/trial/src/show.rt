@@ -3,8 +3,8 @@ ghost use Rattle.std.specs.Prelude.{◌≡◌};
 ghost use Rattle.trial.specs.Marks.{mark_of};
 
 use crate::line;
-use libc::STDOUT_FILENO;
 use rules::{Launched, Outcome, Registers};
+use std::io::{self, Print, Stdout};
 
 // The steps so far, and how many of them came out as the paper says.
 #[derive(Clone, Copy)]
@@ -13,17 +13,18 @@ pub struct Tally {
     pub right: u64,
 }
 
-pub fn say(text: &[u8]) {
-    io::write_all(STDOUT_FILENO, text);
+pub fn say(out: Stdout, text: &[u8]) -> io::Result<()> {
+    out.write_all(text)
 }
 
-fn labelled(label: &[u8], text: &[u8]) {
-    say(label);
-    say(text);
+fn labelled(out: Stdout, label: &[u8], text: &[u8]) -> io::Result<()> {
+    say(out, label)?;
+    say(out, text)
 }
 
-pub fn legend() {
+pub fn legend(out: Stdout) -> io::Result<()> {
     say(
+        out,
         b"A night on sixteen pages. Each step has what is asked, what the paper (document 01) says comes of it, and what came of it.
 
 The pages, a mark each:
@@ -40,27 +41,28 @@ The vCPUs, a mark a record:
   ?      any other
 The flag is 1 if a pool page is free.
 ",
-    );
+    )
 }
 
 // What a part of the night is about, and a ruler over its maps.
-fn part(text: &[u8]) {
-    labelled(b"\n", text);
+fn part(out: Stdout, text: &[u8]) -> io::Result<()> {
+    labelled(out, b"\n", text)?;
     say(
+        out,
         b"                 pages             vCPUs
                  0123456789ABCDEF  0123456789ABCDEF  flag  answer
 ",
-    );
+    )
 }
 
 // What a step asks, after its number.
-fn asked(tally: Tally, text: &[u8]) {
+fn asked(out: Stdout, tally: Tally, text: &[u8]) -> io::Result<()> {
     let step = std::num::wrapping_add_u64(tally.steps, 1);
     if step < 10 {
-        say(b" ");
+        say(out, b" ")?;
     }
-    io::print_decimal(STDOUT_FILENO, step);
-    labelled(b"  ", text);
+    out.print(step)?;
+    labelled(out, b"  ", text)
 }
 
 // The mark of a page: a letter where its byte is right for its owner, on a machine whose startup vCPU has VMPL 1.
@@ -200,51 +202,52 @@ fn value(found: &mut [u8; 128], bytes: &[u8], text: &[u8]) {
 }
 
 // What the paper says, and what was found, after the verdict.
-fn verdict(tally: Tally, said: &[u8], found: &[u8; 128]) -> Tally {
+fn verdict(out: Stdout, tally: Tally, said: &[u8], found: &[u8; 128]) -> io::Result<Tally> {
     let came = line::nth(found, 0);
     let mut t = tally;
     t.steps = std::num::wrapping_add_u64(t.steps, 1);
-    labelled(b"    paper says   ", said);
+    labelled(out, b"    paper says   ", said)?;
     if line::begins(came, said) {
         t.right = std::num::wrapping_add_u64(t.right, 1);
-        labelled(b"    as expected  ", came);
+        labelled(out, b"    as expected  ", came)?;
     } else {
-        labelled(b"    NOT EXPECTED ", came);
+        labelled(out, b"    NOT EXPECTED ", came)?;
     }
-    t
+    Ok(t)
 }
 
 // What a line of the script says or looks at. A step begins with what it asks, and ends with what the paper says of it.
 pub fn tell(
+    out: Stdout,
     found: &mut [u8; 128],
     memory: &[u8; 65536],
     table: &[u8; 16],
     sheet: &[u8; 512],
     tally: Tally,
     text: &[u8],
-) -> Tally {
+) -> io::Result<Tally> {
     let words = line::after(text, 6);
     match line::byte(text, 0) {
-        b'p' => part(words),
+        b'p' => part(out, words)?,
         b'a' => {
             found[41] = b'\n';
-            asked(tally, words);
+            asked(out, tally, words)?;
         }
         b'v' => value(found, memory, text),
         b'b' => value(found, table, text),
         b't' => {
             stands(found, memory, table, sheet);
-            return verdict(tally, words, found);
+            return verdict(out, tally, words, found);
         }
         _ => {}
     }
-    tally
+    Ok(tally)
 }
 
-pub fn total(tally: Tally) {
-    say(b"\n");
-    io::print_decimal(STDOUT_FILENO, tally.right);
-    say(b" of ");
-    io::print_decimal(STDOUT_FILENO, tally.steps);
-    say(b" steps came out as the paper says.\n");
+pub fn total(out: Stdout, tally: Tally) -> io::Result<()> {
+    say(out, b"\n")?;
+    out.print(tally.right)?;
+    say(out, b" of ")?;
+    out.print(tally.steps)?;
+    say(out, b" steps came out as the paper says.\n")
 }
