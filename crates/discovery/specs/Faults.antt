@@ -4,7 +4,6 @@ use Rattle.std.specs.Prelude.{cond, eqb}
 use Rattle.rules.specs.declared.Discovery.{Discovery}
 use Rattle.rules.specs.declared.Located.{Located}
 use Rattle.rules.specs.declared.Located.TheVariants.{Told, NoMonitor}
-use Rattle.rules.specs.Answers.{Answered}
 use Rattle.rules.specs.Discovery.{located_number, refuse_range}
 
 -- 1 to 5

@@ -21,6 +21,7 @@ const FIELDS_SIZE: usize = 32;
 // SVSM_MAX_VERSION
 const VERSION: u32 = 1;
 
+#[tactic(auto, unfolding(rules::specs::Discovery::past_end))]
 fn past_end(d: Discovery) -> bool
     ensures { result ≡ past_end d }
 {
@@ -31,6 +32,7 @@ fn past_end(d: Discovery) -> bool
     d.base > u64::MAX - (d.size - 1)
 }
 
+#[tactic(auto, unfolding(rules::specs::Discovery::area_inside))]
 fn area_inside(d: Discovery) -> bool
     ensures { result ≡ area_inside d }
 {
@@ -42,6 +44,7 @@ fn area_inside(d: Discovery) -> bool
 }
 
 // 1 to 5, in their order. Told where nothing is refused.
+#[tactic(auto, unfolding(crate::specs::Faults::range_fault, rules::specs::Discovery::refuse_range, rules::specs::Answers::refuse, rules::specs::Words::multiple, rules::specs::Words::page_size))]
 fn range_fault(d: Discovery) -> Located
     ensures { result ≡ range_fault d }
 {
@@ -64,6 +67,7 @@ fn range_fault(d: Discovery) -> Located
 }
 
 // 6, or Told.
+#[tactic(auto, unfolding(crate::specs::Faults::no_monitor))]
 fn no_monitor(d: Discovery) -> Located
     ensures { result ≡ no_monitor d }
 {
@@ -74,6 +78,7 @@ fn no_monitor(d: Discovery) -> Located
 }
 
 // Of two answers the first that refuses. Told where neither does.
+#[tactic(auto, unfolding(crate::specs::Faults::first_fault, rules::specs::Discovery::located_number))]
 fn first_fault(one: Located, other: Located) -> Located
     ensures { result ≡ first_fault one other }
 {
@@ -83,6 +88,7 @@ fn first_fault(one: Located, other: Located) -> Located
     other
 }
 
+#[tactic(auto, unfolding(rules::specs::Words::page_size, rules::specs::Discovery::discovery_of))]
 fn fields_of(page: &[u8]) -> Discovery
     requires { length page.now ≡ page_size }
     ensures { result ≡ discovery_of page.now }
@@ -96,6 +102,7 @@ fn fields_of(page: &[u8]) -> Discovery
     }
 }
 
+#[tactic(auto, unfolding(rules::specs::Discovery::fields_size))]
 fn put_fields(bytes: &mut [u8], at: usize, d: Discovery)
     requires { at + fields_size ≤ length bytes.old }
     ensures { bytes.new ≡ sets bytes.old at (discovery_bytes d) }
@@ -110,6 +117,7 @@ fn put_fields(bytes: &mut [u8], at: usize, d: Discovery)
 }
 
 // The writer: size 0 is tested last.
+#[tactic(auto, unfolding(rules::specs::Promises::AnnouncePromise, rules::specs::Discovery::announce, rules::specs::Discovery::refuse_range, rules::specs::Answers::refuse, crate::specs::Faults::range_fault, crate::specs::Faults::no_monitor, crate::specs::Faults::first_fault, rules::specs::Discovery::located_number, rules::specs::Words::page_size, rules::specs::Discovery::fields_size))]
 pub fn announce(page: &mut [u8], base: u64, size: u64, area: u64, vmpl: u8) -> Located
     ensures { AnnouncePromise base size area vmpl page.old (record { answer = result; after = page.new }) }
 {
@@ -134,6 +142,7 @@ pub fn announce(page: &mut [u8], base: u64, size: u64, area: u64, vmpl: u8) -> L
 }
 
 // The reader: after the lengths size 0 is tested first.
+#[tactic(auto, using(crate::proofs::Whole::over_all), unfolding(rules::specs::Promises::DiscoverPromise, rules::specs::Discovery::discover, rules::specs::Discovery::refuse_range, rules::specs::Answers::refuse, crate::specs::Faults::range_fault, crate::specs::Faults::no_monitor, crate::specs::Faults::first_fault, rules::specs::Discovery::located_number, rules::specs::Words::page_size, rules::specs::Discovery::fields_size))]
 pub fn discover(page: &[u8], fields: &mut [u8]) -> Located
     ensures { DiscoverPromise page.now fields.old (record { answer = result; after = fields.new }) }
 {

@@ -78,6 +78,7 @@ fn wish_of(e: u64) -> Wish
     }
 }
 
+#[tactic(auto, using(crate::proofs::Reading::judged_by_count))]
 fn read_pvalidate(table: &[u8], e: u64, first: usize, n: usize) -> Entry
     requires { first + n ≤ length table.now }
     ensures { result ≡ judged (every (valid_at table.now) (range first n)) (every (invalid_at table.now) (range first n)) e first n }

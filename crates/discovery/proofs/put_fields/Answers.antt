@@ -1,14 +1,13 @@
--- , a field at a time.
+-- A field at a time.
 use mathlib.Core.Path.{◌≡◌, refl, ◌∙◌, ap, ap₂}
 use mathlib.Core.List.{List, [], ◌∷◌, ◌++◌, append_assoc}
 use Prim.Native.Nat.{ℕ, ◌+◌, ◌<◌}
 use native.Mathlib.Omega.{arith}
 use lib.ListN.{length}
 use lib.Seq.{sets}
-use mir.Facts.{Fits-lt-pow}
 use Rattle.rules.specs.declared.Discovery.{Discovery}
 use Rattle.rules.specs.Words.{little}
-use Rattle.rules.specs.Discovery.{fields_size, discovery_bytes}
+use Rattle.rules.specs.Discovery.{discovery_bytes}
 use Rattle.laws.proofs.Widths.{sets_append}
 use Rattle.discovery.proofs.put_fields.Goals as goal
 
@@ -59,4 +58,4 @@ returns c =
     let version = more l args.at _ (with_area d) (little 4 d.version) area c.write4.ensures (omega (arith, sizes.2)) in
     let vmpl = more l args.at _ (with_version d) (little 2 d.vmpl) version c.write2.ensures (omega (arith, sizes.3)) in
     let last = more l args.at _ (with_vmpl d) (little 2 0) vmpl c.write2-2.ensures (omega (arith, sizes.4)) in
-    rw (all_bytes d (Fits-lt-pow c.struct_known-1.given.1.1.1.1.0)) at last
+    rw (all_bytes d (omega arith)) at last

@@ -1,15 +1,10 @@
 -- The loop's invariant: the pages passed are carried out, and the lengths are as they were.
 -- The measure is what is left of the entry.
-use native.Mathlib.Numerals.{add-one}
-use mathlib.Core.Path.{◌≡◌, refl, sym, ◌∙◌}
-use Prim.Native.Nat.{◌-◌, ◌≤◌, zero-le}
-use native.Mathlib.Omega.{arith}
+use mathlib.Core.Path.{◌≡◌}
+use Prim.Native.Nat.{◌-◌, ◌≤◌}
 use lib.ListN.{length}
-use Rattle.rules.specs.Words.{page_size}
 use Rattle.rules.specs.Lists.{carry_out_all}
 use Rattle.laws.specs.Alone.{without_sheet}
-use Rattle.laws.proofs.Parts.{same_parts}
-use Rattle.effects.proofs.Laws.{carry_out_none, carry_out_more}
 use Rattle.effects.proofs.carry_out_all.Given as goal
 
 abbrev pub invariant-loop-i : goal.invariant-loop-i

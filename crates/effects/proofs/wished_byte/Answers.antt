@@ -4,12 +4,12 @@ use Rattle.effects.proofs.wished_byte.Goals as goal
 
 pub returns-in-Invalid : goal.returns-in-Invalid
 unfolding wished
-returns-in-Invalid c = rw (c.enum_told-1.given.1, ← c.revoked-revoked.ensures) c.made_invalid.ensures
+returns-in-Invalid c = rw (c.in-Invalid.is, ← c.revoked-revoked.ensures) c.made_invalid.ensures
 
 pub returns-in-Valid : goal.returns-in-Valid
 unfolding wished
-returns-in-Valid c = rw (c.enum_told-in-Valid-1.given.1, ← c.made_valid.ensures) c.granted.ensures
+returns-in-Valid c = rw (c.in-Valid.is, ← c.made_valid.ensures) c.granted.ensures
 
 pub returns-in-Pool : goal.returns-in-Pool
 unfolding wished
-returns-in-Pool c = rw (c.enum_told-in-Pool-1.given.1, ← c.revoked-revoked.ensures) c.owned.ensures
+returns-in-Pool c = rw (c.in-Pool.is, ← c.revoked-revoked.ensures) c.owned.ensures

@@ -35,7 +35,7 @@ put_byte-requires c =
 pub put_byte-requires-2 : goal.put_byte-requires-2
 unfolding page_size
 put_byte-requires-2 c =
-    let pre = c.requires in let same = same_parts page_size c.args.memory.now c.put_byte.last.0 c.put_byte.kept.0 in
+    let pre = c.requires in let same = same_parts page_size c.args.memory.now c.put_byte.new.s c.put_byte.auto.s in
     record { some = lit< tt; below = omega (arith, same, pages_tested _ _ pre.tested, pre.new_below); within = lit≤ tt }
 
 pub returns : goal.returns

@@ -1,11 +1,13 @@
-use mathlib.Core.Path.{◌≡◌, refl, sym, ap, ◌∙◌}
-use mathlib.Core.Bool.{Bool, true, not, ◌&&◌, and-false}
-use Prim.Native.Nat.{ℕ, ◌+◌, ◌-◌, ◌*◌, ◌≤◌, zero-le}
+-- The page looked at may be covered by the owner that is read and its own number; a loop over a range has one page more.
+use mathlib.Core.Path.{◌≡◌, refl, sym, ◌∙◌}
+use mathlib.Core.Bool.{false, not, ◌&&◌, and-false}
+use mathlib.Core.List.{List}
+use Prim.Native.Nat.{ℕ, ◌+◌, ◌*◌, ◌<◌, ◌≤◌, zero-le}
 use native.Mathlib.Omega.{arith}
 use native.Mathlib.Numerals.{add-one}
 use borrow.Author.Tests.{eq-eqb, ne_eqb}
 use lib.Dec.{eqb}
-use lib.ListN.{get_or}
+use lib.ListN.{length, get_or}
 use Rattle.rules.specs.Words.{page_size, range, every}
 use Rattle.rules.specs.Machine.{plain, owner}
 use Rattle.rules.specs.Lists.{coverable}
@@ -13,28 +15,17 @@ use Rattle.laws.specs.Alone.{table_alone}
 use Rattle.laws.proofs.Ranges.{every_more, every_fails}
 use Rattle.entries.proofs.Coverable.{coverable_is}
 use Rattle.entries.proofs.covered.all_coverable.Goals as goal
-use Rattle.entries.proofs.covered.all_coverable.Goals.{After-owner_of-owner}
 
--- the way back, and the page that is looked at
-abbrev start : At-loop-i invariant-loop decreases-loop → tie.Start invariant-loop decreases-loop
-start c = (goal.at.HERE c).Start
+module _ (vmpl : ℕ) (table : List ℕ) (first n list i : ℕ) (inside : first + n ≤ length table) (h : i < n) where
+  -- the test, by the owner that is read
+  told : (o : ℕ) → o ≡ owner (get_or table (first + i) 0)
+      → coverable vmpl (page_size * list) (table_alone table) (first + i) ≡ (eqb o plain && not (eqb (first + i) list))
+  told o owns = rw owns (coverable_is vmpl table (first + i) (omega arith) list)
 
-abbrev round : After-owner_of-owner invariant-loop decreases-loop → tie.At-loop invariant-loop decreases-loop
-round c = (goal.at.HERE c).At-loop-i
-
-abbrev tested : At-loop-i invariant-loop decreases-loop → ℕ → Bool
-tested c = let a = (start (goal.at.HERE c).At-loop-i).args in coverable a.vmpl (page_size * a.list) (table_alone a.table.now)
-
-abbrev page : At-loop-i invariant-loop decreases-loop → ℕ
-page c = (start (goal.at.HERE c).At-loop-i).args.first + c.loop-i.i
-
--- the test, by the owner that is read
-told : (c : After-owner_of-owner invariant-loop decreases-loop)
-    → tested (round (goal.at.HERE c).After-owner_of-owner) (page (round (goal.at.HERE c).After-owner_of-owner)) ≡ (eqb c.owner_of-owner.result plain && not (eqb (page (round (goal.at.HERE c).After-owner_of-owner)) (start (round (goal.at.HERE c).After-owner_of-owner)).args.list))
-told c =
-    let a = (start (round (goal.at.HERE c).After-owner_of-owner)).args in
-    let owns = c.owner_of-owner.ensures ∙ ap (λ (p : ℕ). owner (get_or a.table.now p 0)) {y = page (round (goal.at.HERE c).After-owner_of-owner)} (omega arith) in
-    rw (← owns) at (coverable_is a.vmpl a.table.now (page (round (goal.at.HERE c).After-owner_of-owner)) (omega arith) a.list)
+  -- one page that fails
+  fails : coverable vmpl (page_size * list) (table_alone table) (first + i) ≡ false
+      → false ≡ every (coverable vmpl (page_size * list) (table_alone table)) (range first n)
+  fails t = sym (every_fails (coverable vmpl (page_size * list) (table_alone table)) first n (first + i) (omega arith) (omega arith) t)
 
 pub loop-i-init : goal.loop-i-init
 unfolding every range
@@ -42,23 +33,26 @@ loop-i-init c = (zero-le, refl)
 
 pub returns-then-owner-ne0 : goal.returns-then-owner-ne0
 returns-then-owner-ne0 c =
-    let at_loop = round (goal.at.returns-then-owner-ne0 c).After-owner_of-owner in
-    sym (every_fails (tested at_loop) _ _ (page at_loop) (omega arith) (omega arith) (told (goal.at.returns-then-owner-ne0 c).After-owner_of-owner ∙ rw (ne_eqb _ plain c.if-owner-ne0.true)))
+    let a = c.args in let i = c.loop-i.i in
+    fails a.vmpl a.table.now a.first a.n a.list i c.requires c.loop-i-test.true
+    (told a.vmpl a.table.now a.first a.n a.list i c.requires c.loop-i-test.true _ c.owner_of-owner.ensures ∙ rw (ne_eqb _ plain c.if-owner-ne0.true))
 
 pub returns-then-p-list : goal.returns-then-p-list
 returns-then-p-list c =
-    let at_loop = round (goal.at.returns-then-p-list c).After-owner_of-owner in
-    let lists = eq-eqb (page at_loop) (start at_loop).args.list (omega arith) in
-    sym (every_fails (tested at_loop) _ _ (page at_loop) (omega arith) (omega arith) (told (goal.at.returns-then-p-list c).After-owner_of-owner ∙ rw lists (simp and-false)))
+    let a = c.args in let i = c.loop-i.i in let lists = eq-eqb (a.first + i) a.list (omega arith) in
+    fails a.vmpl a.table.now a.first a.n a.list i c.requires c.loop-i-test.true
+    (told a.vmpl a.table.now a.first a.n a.list i c.requires c.loop-i-test.true _ c.owner_of-owner.ensures ∙ rw lists (simp and-false))
 
 pub loop-i-preserved : goal.loop-i-preserved
 loop-i-preserved c =
-    let at_loop = round (goal.at.loop-i-preserved c).After-owner_of-owner in
-    let other = ne_eqb (page at_loop) (start at_loop).args.list (omega arith) in
-    (omega arith, rw add-one (every_more (tested at_loop) _ at_loop.loop.i at_loop.loop.inv.1 (told (goal.at.loop-i-preserved c).After-owner_of-owner ∙ rw (eq-eqb _ plain c.if-owner-ne0.false, other))))
+    let a = c.args in let i = c.loop-i.i in let other = ne_eqb (a.first + i) a.list (omega arith) in (
+      omega arith,
+      rw add-one (every_more _ a.first i c.loop-i.invariant.1
+          (told a.vmpl a.table.now a.first a.n a.list i c.requires c.loop-i-test.true _ c.owner_of-owner.ensures ∙ rw (eq-eqb _ plain c.if-owner-ne0.false, other))),
+    )
 
 pub returns : goal.returns
 returns c =
     let l = c.loop-i in
-    let all : l.i ≡ (start (goal.at.returns c).At-loop-i).args.n = omega arith in
+    let all : l.i ≡ c.args.n = omega arith in
     rw (← all) (sym l.invariant.1)

@@ -1,19 +1,10 @@
--- The loop's invariant: each page passed may be covered.
--- The measure is the number of pages left.
-use mathlib.Core.Path.{◌≡◌, refl, sym, ap, ◌∙◌}
-use mathlib.Core.Bool.{Bool, true, not, ◌&&◌, and-false}
-use Prim.Native.Nat.{ℕ, ◌+◌, ◌-◌, ◌*◌, ◌≤◌, zero-le}
-use native.Mathlib.Omega.{arith}
-use native.Mathlib.Numerals.{add-one}
-use borrow.Author.Tests.{eq-eqb, ne_eqb}
-use lib.Dec.{eqb}
-use lib.ListN.{get_or}
+-- The loop's invariant: each page passed may be covered. The measure is the number of pages left.
+use mathlib.Core.Path.{◌≡◌}
+use mathlib.Core.Bool.{true}
+use Prim.Native.Nat.{◌-◌, ◌*◌, ◌≤◌}
 use Rattle.rules.specs.Words.{page_size, range, every}
-use Rattle.rules.specs.Machine.{plain, owner}
 use Rattle.rules.specs.Lists.{coverable}
 use Rattle.laws.specs.Alone.{table_alone}
-use Rattle.laws.proofs.Ranges.{every_more, every_fails}
-use Rattle.entries.proofs.Coverable.{coverable_is}
 use Rattle.entries.proofs.covered.all_coverable.Given as goal
 
 abbrev pub invariant-loop-i : goal.invariant-loop-i

@@ -1,11 +1,7 @@
 -- The loop's invariant: the pages passed are counted. The measure is the number of pages left.
-use mathlib.Core.Path.{◌≡◌, refl, sym, ap₂, ◌∙◌}
-use Prim.Native.Nat.{◌+◌, ◌-◌, ◌≤◌, zero-le}
-use native.Mathlib.Omega.{arith}
-use native.Mathlib.Numerals.{add-one}
+use mathlib.Core.Path.{◌≡◌}
+use Prim.Native.Nat.{◌-◌, ◌≤◌}
 use Rattle.rules.specs.Words.{range, count}
-use Rattle.laws.proofs.Ranges.{length_range}
-use Rattle.laws.proofs.Counts.{count_more, count_le_length}
 use Rattle.entries.specs.Reading.{valid_at}
 use Rattle.entries.proofs.covered.count_valid.Given as goal
 

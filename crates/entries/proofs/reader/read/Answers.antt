@@ -2,7 +2,6 @@
 use mathlib.Core.Path.{◌≡◌, sym, ◌∙◌, ap}
 use Prim.Native.Nat.{ℕ, ◌*◌, ◌/◌}
 use native.Mathlib.Omega.{arith}
-use borrow.Author.Tests.{not-true, not-false}
 use Rattle.rules.specs.Words.{page_size, range, every}
 use Rattle.rules.specs.Lists.{coverable}
 use Rattle.laws.specs.Alone.{table_alone}
@@ -36,14 +35,18 @@ pub returns-then-n-table : goal.returns-then-n-table
 returns-then-n-table c = sym (read_beyond _ _ _ _ _ _ _ (formed (goal.at.returns-then-n-table c).After-pages_of-n) (omega arith))
 
 pub returns-then-not-coverable : goal.returns-then-not-coverable
-returns-then-not-coverable c = sym (read_foreign _ _ _ _ _ _ _ (formed (goal.at.returns-then-not-coverable c).After-pages_of-n) (covers (goal.at.returns-then-not-coverable c).After-all_coverable-coverable ∙ not-true _ c.if-not-coverable.true))
+returns-then-not-coverable c =
+    let at = goal.at.returns-then-not-coverable c in
+    sym (read_foreign _ _ _ _ _ _ _ (formed at.After-pages_of-n) (covers at.After-all_coverable-coverable ∙ c.if-not-coverable.true))
 
 pub returns-in-Pvalidate : goal.returns-in-Pvalidate
 returns-in-Pvalidate c =
-    let passed = covers (goal.at.returns-in-Pvalidate c).After-all_coverable-coverable ∙ not-false _ c.if-not-coverable.false in
-    rw (read_as_pvalidate _ _ _ _ _ _ _ (formed (goal.at.returns-in-Pvalidate c).After-pages_of-n) passed c.enum_told-1.given.1) c.read_pvalidate.ensures
+    let at = goal.at.returns-in-Pvalidate c in
+    let passed = covers at.After-all_coverable-coverable ∙ c.if-not-coverable.false in
+    rw (read_as_pvalidate _ _ _ _ _ _ _ (formed at.After-pages_of-n) passed c.in-Pvalidate.is) c.read_pvalidate.ensures
 
 pub returns-in-Deposit : goal.returns-in-Deposit
 returns-in-Deposit c =
-    let passed = covers (goal.at.returns-in-Deposit c).After-all_coverable-coverable ∙ not-false _ c.if-not-coverable.false in
-    rw (read_as_deposit _ _ _ _ _ _ _ (formed (goal.at.returns-in-Deposit c).After-pages_of-n) passed c.enum_told-in-Deposit-1.given.1) c.read_deposit.ensures
+    let at = goal.at.returns-in-Deposit c in
+    let passed = covers at.After-all_coverable-coverable ∙ c.if-not-coverable.false in
+    rw (read_as_deposit _ _ _ _ _ _ _ (formed at.After-pages_of-n) passed c.in-Deposit.is) c.read_deposit.ensures
