@@ -88,7 +88,7 @@ fn first_fault(one: Located, other: Located) -> Located
     other
 }
 
-#[tactic(auto, unfolding(rules::specs::Words::page_size, rules::specs::Discovery::discovery_of))]
+#[tactic(auto, unfolding(rules::specs::Words::page_size))]
 fn fields_of(page: &[u8]) -> Discovery
     requires { length page.now ≡ page_size }
     ensures { result ≡ discovery_of page.now }
@@ -117,7 +117,7 @@ fn put_fields(bytes: &mut [u8], at: usize, d: Discovery)
 }
 
 // The writer: size 0 is tested last.
-#[tactic(auto, unfolding(rules::specs::Promises::AnnouncePromise, rules::specs::Discovery::announce, rules::specs::Discovery::refuse_range, rules::specs::Answers::refuse, crate::specs::Faults::range_fault, crate::specs::Faults::no_monitor, crate::specs::Faults::first_fault, rules::specs::Discovery::located_number, rules::specs::Words::page_size, rules::specs::Discovery::fields_size))]
+#[tactic(auto, unfolding(rules::specs::Words::page_size, rules::specs::Discovery::fields_size))]
 pub fn announce(page: &mut [u8], base: u64, size: u64, area: u64, vmpl: u8) -> Located
     ensures { AnnouncePromise base size area vmpl page.old (record { answer = result; after = page.new }) }
 {
@@ -142,7 +142,7 @@ pub fn announce(page: &mut [u8], base: u64, size: u64, area: u64, vmpl: u8) -> L
 }
 
 // The reader: after the lengths size 0 is tested first.
-#[tactic(auto, using(crate::proofs::Whole::over_all), unfolding(rules::specs::Promises::DiscoverPromise, rules::specs::Discovery::discover, rules::specs::Discovery::refuse_range, rules::specs::Answers::refuse, crate::specs::Faults::range_fault, crate::specs::Faults::no_monitor, crate::specs::Faults::first_fault, rules::specs::Discovery::located_number, rules::specs::Words::page_size, rules::specs::Discovery::fields_size))]
+#[tactic(auto, unfolding(rules::specs::Words::page_size, rules::specs::Discovery::fields_size))]
 pub fn discover(page: &[u8], fields: &mut [u8]) -> Located
     ensures { DiscoverPromise page.now fields.old (record { answer = result; after = fields.new }) }
 {

@@ -15,13 +15,13 @@ pub fn call(
 ) -> Outcome
     ensures { CallPromise caller
         (record {
-          registers = registers.entry.now;
+          registers = registers.old;
           machine = buffers memory.old table.old sheet.old;
         })
         (record {
           answer = result;
           after = record {
-            registers = registers.exit.now;
+            registers = registers.new;
             machine = buffers memory.new table.new sheet.new;
           };
         }) }

@@ -39,8 +39,7 @@ fn verdict(answer: Verdict) -> u32
     }
 }
 
-#[unsafe(no_mangle)]
-pub extern "C" fn monitor_launch(
+pub fn monitor_launch(
     memory: &mut [u8],
     table: &mut [u8],
     sheet: &mut [u8],
@@ -71,8 +70,7 @@ pub extern "C" fn monitor_launch(
     launched(monitor::launch::launch(memory, table, sheet, n, plan))
 }
 
-#[unsafe(no_mangle)]
-pub extern "C" fn monitor_store(
+pub fn monitor_store(
     memory: &mut [u8],
     table: &[u8],
     vmpl: u8,
@@ -86,8 +84,7 @@ pub extern "C" fn monitor_store(
     verdict(monitor::steps::store(memory, table, vmpl, page, offset, bytes))
 }
 
-#[unsafe(no_mangle)]
-pub extern "C" fn monitor_mark(sheet: &mut [u8], number: usize, running: u8) -> u32
+pub fn monitor_mark(sheet: &mut [u8], number: usize, running: u8) -> u32
     ensures { MonitorMarkPromise number running sheet.old (record { answer = result; after = sheet.new }) }
 {
     verdict(monitor::steps::mark(sheet, number, running))
@@ -131,8 +128,7 @@ fn write_registers(bytes: &mut [u8], g: Registers)
     words::write8(bytes, 40, g.reason);
 }
 
-#[unsafe(no_mangle)]
-pub extern "C" fn monitor_call(
+pub fn monitor_call(
     memory: &mut [u8],
     table: &mut [u8],
     sheet: &mut [u8],
@@ -141,13 +137,13 @@ pub extern "C" fn monitor_call(
 ) -> u32
     ensures { MonitorCallPromise caller
         (record {
-          registers = registers.entry.now;
+          registers = registers.old;
           machine = buffers memory.old table.old sheet.old;
         })
         (record {
           answer = result;
           after = record {
-            registers = registers.exit.now;
+            registers = registers.new;
             machine = buffers memory.new table.new sheet.new;
           };
         }) }
@@ -178,8 +174,7 @@ fn located(answer: Located) -> u32
     }
 }
 
-#[unsafe(no_mangle)]
-pub extern "C" fn monitor_announce(
+pub fn monitor_announce(
     page: &mut [u8],
     base: u64,
     size: u64,
@@ -191,8 +186,7 @@ pub extern "C" fn monitor_announce(
     located(discovery::announce(page, base, size, area, vmpl))
 }
 
-#[unsafe(no_mangle)]
-pub extern "C" fn monitor_discover(page: &[u8], fields: &mut [u8]) -> u32
+pub fn monitor_discover(page: &[u8], fields: &mut [u8]) -> u32
     ensures { MonitorDiscoverPromise page.now fields.old (record { answer = result; after = fields.new }) }
 {
     located(discovery::discover(page, fields))
