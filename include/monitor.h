@@ -1,5 +1,5 @@
 /*
- * The core of the lift monitor for C hosts. Link target/staticlib/libdoor.a, which `rt staticlib door` writes.
+ * The core of the lift monitor for C hosts. Link target/staticlib/libdoor.a, which `.ci/library` writes.
  *
  * The host keeps a machine in three buffers and lends them, each as a pointer and a length in bytes:
  *

@@ -1,4 +1,4 @@
-//! Links target/staticlib/libdoor.a of the repository, which `rt staticlib door` writes.
+//! Links target/staticlib/libdoor.a of the repository, which `.ci/library` writes.
 
 use std::env;
 use std::path::Path;
@@ -11,7 +11,7 @@ fn main() {
     println!("cargo:rerun-if-changed={}", library.display());
     if !library.is_file() {
         eprintln!("{} is missing.", library.display());
-        eprintln!("Make it with `rt staticlib door`, in the repository's root folder.");
+        eprintln!("Make it with `.ci/library`, in the repository's root folder.");
         exit(1);
     }
     println!("cargo:rustc-link-search=native={}", folder.display());

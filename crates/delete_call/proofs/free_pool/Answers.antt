@@ -18,9 +18,6 @@ inside c =
 pub byte-holding-requires : goal.byte-holding-requires
 byte-holding-requires c = at c.requires.at _ _ (lit≤ tt)
 
-pub number4-page-requires : goal.number4-page-requires
-number4-page-requires c = at c.requires.at _ _ (lit≤ tt)
-
 pub bounds-table-page : goal.bounds-table-page
 bounds-table-page c = inside (goal.at.bounds-table-page c).After-number4-page
 
