@@ -35,6 +35,7 @@ fn bad_names(sheet: &[u8], i: usize, n: usize) -> bool
     pool_page >= n
 }
 
+#[tactic(auto, unfolding(rules::specs::Sound::bad_record, rules::specs::Machine::is_live, rules::specs::Machine::fields, rules::specs::Words::record_size))]
 fn bad_record(sheet: &[u8], i: usize, n: usize) -> bool
     requires { Row sheet.now i }
     ensures { result ≡ bad_record n (row sheet.now i) }

@@ -1,11 +1,8 @@
 -- The loop's invariant: what was passed is zeros, and the rest is as it was. The measure is the rest's length.
-use mathlib.Core.Path.{◌≡◌, refl, ◌∙◌}
-use mathlib.Core.List.{◌++◌, append-nil}
-use Prim.Native.Nat.{◌-◌, ◌≤◌, zero-le}
-use native.Mathlib.Omega.{arith}
-use lib.ListN.{length, drop, replicate, length-set, drop_of_length-le}
-use borrow.Author.Fill.{fill_more}
-use Rattle.rules.specs.Machine.{zeros}
+use mathlib.Core.Path.{◌≡◌}
+use mathlib.Core.List.{◌++◌}
+use Prim.Native.Nat.{◌-◌, ◌≤◌}
+use lib.ListN.{length, drop, replicate}
 use Rattle.pages.proofs.memory.fill.Given as goal
 
 abbrev pub invariant-loop-i : goal.invariant-loop-i

@@ -1,9 +1,9 @@
 use mathlib.Core.Path.{◌≡◌, refl, sym, ◌∙◌, ap}
 use mathlib.Core.Bool.{Bool, true, false, ◌||◌}
-use Prim.Native.Nat.{suc, ◌-◌, ◌≤◌, zero-le}
+use Prim.Native.Nat.{suc, zero-le}
 use native.Mathlib.Omega.{arith}
 use native.Mathlib.Numerals.{add-one}
-use lib.ListN.{length, get_or, take}
+use lib.ListN.{get_or, take}
 use lib.Seq.{take-suc, take_all}
 use Rattle.rules.specs.Words.{exists}
 use Rattle.rules.specs.Calls.{is_free}

@@ -1,12 +1,9 @@
 -- The loop's invariant: no page passed is free. The measure is what is left of the table.
-use mathlib.Core.Path.{◌≡◌, sym, ◌∙◌}
+use mathlib.Core.Path.{◌≡◌}
 use mathlib.Core.Bool.{false}
-use Prim.Native.Nat.{ℕ, ◌-◌, ◌≤◌, ◌<◌, zero-le}
-use native.Mathlib.Omega.{arith}
+use Prim.Native.Nat.{ℕ, ◌-◌, ◌≤◌, ◌<◌}
 use lib.ListN.{length, get_or}
-use borrow.Author.Count.{below_none, below_more}
 use Rattle.rules.specs.Calls.{is_free}
-use Rattle.laws.proofs.Ranges.{lowest_is, lowest_none}
 use Rattle.pages.proofs.pool.lowest_free.Given as goal
 
 abbrev pub invariant-loop-p : goal.invariant-loop-p

@@ -1,9 +1,7 @@
 use mathlib.Core.Path.{sym, ◌∙◌}
-use Prim.Native.Nat.{◌-◌}
 use native.Mathlib.Omega.{arith}
 use Rattle.rules.specs.Words.{records}
-use Rattle.sheet.specs.Row.{live_with}
-use Rattle.sheet.proofs.Passed.{Passed, at_first, one_more, found, at_end}
+use Rattle.sheet.proofs.Passed.{at_first, one_more, found, at_end}
 use Rattle.sheet.proofs.live.lowest.Goals as goal
 
 pub loop-i-init : goal.loop-i-init

@@ -1,10 +1,8 @@
 use mathlib.Core.Path.{sym, ◌∙◌}
-use Prim.Native.Nat.{◌-◌}
 use native.Mathlib.Omega.{arith}
 use borrow.Author.Tests.{lt-ltb, le-ltb}
 use Rattle.rules.specs.Words.{records}
-use Rattle.rules.specs.Sound.{bad_record}
-use Rattle.sheet.proofs.Passed.{Passed, at_first, one_more, found, at_end, exists_below}
+use Rattle.sheet.proofs.Passed.{at_first, one_more, found, at_end, exists_below}
 use Rattle.sheet.proofs.shape.any_bad.Goals as goal
 
 pub loop-i-init : goal.loop-i-init

@@ -1,11 +1,8 @@
 -- The loop's invariant: no record passed is bad. The measure is the count of records left.
-use mathlib.Core.Path.{sym, ◌∙◌}
 use Prim.Native.Nat.{◌-◌}
-use native.Mathlib.Omega.{arith}
-use borrow.Author.Tests.{lt-ltb, le-ltb}
 use Rattle.rules.specs.Words.{records}
 use Rattle.rules.specs.Sound.{bad_record}
-use Rattle.sheet.proofs.Passed.{Passed, at_first, one_more, found, at_end, exists_below}
+use Rattle.sheet.proofs.Passed.{Passed}
 use Rattle.sheet.proofs.shape.any_bad.Given as goal
 
 abbrev pub invariant-loop-i : goal.invariant-loop-i

@@ -1,5 +1,4 @@
 -- Each return follows the definition's tests in their order.
-use mathlib.Core.Bool.{false, not, ◌||◌}
 use lib.Dec.{lit≤}
 use borrow.Author.Tests.{lt-leb, le-leb, eq-eqb, ne_eqb}
 use Rattle.rules.specs.Words.{between, record_size}
