@@ -90,10 +90,16 @@ unfolding read_at N ends
 reads_within call vmpl list e table first count wish h = rw h at (read_ends call vmpl (page_size * list) e (table_alone table))
 
 -- a machine as long as one that was tested, with its sheet, is tested
-pub still_tested : (b a : Buffers) (caller : ℕ) → Tested b caller → length a.memory ≡ length b.memory → length a.table ≡ length b.table
+still_tested : (b a : Buffers) (caller : ℕ) → Tested b caller → length a.memory ≡ length b.memory → length a.table ≡ length b.table
     → a.sheet ≡ b.sheet → Tested a caller
 unfolding bad_machine parted N
 still_tested b a caller t m l s = record { sized = same_sizes b a m l (ap length s) ∙ t.sized; shape = rw (l, s) t.shape }
+
+-- and a list in it is as it was told
+pub still_listed : (b : Buffers) (memory table : List ℕ) (caller rcx upto : ℕ) → Listed b caller rcx upto
+    → length memory ≡ length b.memory → length table ≡ length b.table → Listed (buffers memory table b.sheet) caller rcx upto
+still_listed b memory table caller rcx upto p m l =
+    record { tested = still_tested b _ caller p.tested m l refl; below = rw l p.below; within = p.within }
 
 -- a place in the list
 pub in_page : (b : Buffers) (caller rcx upto at width : ℕ) → Listed b caller rcx upto → at + width ≤ offset_of rcx + 8 + 8 * upto

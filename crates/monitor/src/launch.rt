@@ -9,6 +9,7 @@ ghost use Rattle.monitor.specs.Ready.{Ready};
 
 use rules::{Launched, Plan, Vcpu};
 
+#[tactic(auto, unfolding(rules::specs::Launch::in_monitor))]
 fn in_monitor(plan: Plan, p: usize) -> bool
     ensures { result ≡ in_monitor plan p }
 {
@@ -18,6 +19,7 @@ fn in_monitor(plan: Plan, p: usize) -> bool
     p - plan.first < plan.count
 }
 
+#[tactic(auto, unfolding(rules::specs::Launch::out_of_range))]
 fn out_of_range(plan: Plan, n: usize) -> bool
     ensures { result ≡ out_of_range plan n }
 {
@@ -39,6 +41,7 @@ fn out_of_range(plan: Plan, n: usize) -> bool
     plan.count == 0
 }
 
+#[tactic(auto, unfolding(rules::specs::Launch::areas_meet))]
 fn areas_meet(plan: Plan) -> bool
     ensures { result ≡ areas_meet plan }
 {
@@ -51,6 +54,7 @@ fn areas_meet(plan: Plan) -> bool
     in_monitor(plan, plan.calling)
 }
 
+#[tactic(auto, unfolding(rules::specs::Launch::launch_byte))]
 fn launch_byte(plan: Plan, p: usize) -> u8
     ensures { result ≡ launch_byte plan p }
 {

@@ -5,6 +5,7 @@ ghost use Rattle.rules.specs.Promises.{StorePromise, MarkPromise};
 use rules::Verdict;
 
 // A store of bytes by a VMPL at an offset of a page.
+#[tactic(auto, using(laws::proofs::FlatSteps::store_refused), unfolding(rules::specs::Promises::StorePromise, rules::specs::Steps::may_store, rules::specs::Words::page_size, rules::specs::Flat::memory_sized))]
 pub fn store(
     memory: &mut [u8],
     table: &[u8],

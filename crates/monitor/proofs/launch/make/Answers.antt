@@ -6,9 +6,6 @@ use Rattle.rules.specs.Launch.{made}
 use Rattle.rules.specs.Flat.{parted}
 use Rattle.monitor.proofs.launch.make.Goals as goal
 
-pub make_sheet-requires : goal.make_sheet-requires
-make_sheet-requires c = c.requires
-
 pub put_number2-requires : goal.put_number2-requires
 unfolding page_size
 put_number2-requires c =

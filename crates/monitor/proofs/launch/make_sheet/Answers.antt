@@ -11,16 +11,15 @@ use Rattle.monitor.proofs.launch.make_sheet.Goals as goal
 
 pub overflow_cast-startup : goal.overflow_cast-startup
 unfolding most_pages
-overflow_cast-startup c = let ready = c.requires in omega (arith, ready.vmsa, ready.most)
+overflow_cast-startup c = omega arith
 
 pub overflow_cast-startup-2 : goal.overflow_cast-startup-2
 unfolding most_pages
-overflow_cast-startup-2 c = let ready = c.requires in omega (arith, ready.calling, ready.most)
+overflow_cast-startup-2 c = omega arith
 
 pub put_record-requires : goal.put_record-requires
 unfolding records
-put_record-requires c =
-    record { sized = c.fill.auto.0 ∙ c.requires.sized; below = lit< tt }
+put_record-requires c = record { sized = c.fill.auto.part ∙ c.requires.sized; below = lit< tt }
 
 pub returns : goal.returns
 unfolding launch_sheet launch_record records record_size

@@ -1,9 +1,10 @@
+-- The byte that is put is launch's, and at the end no rest is left.
 use mathlib.Core.Path.{◌≡◌, refl, ◌∙◌}
-use mathlib.Core.List.{map, ◌++◌, append-nil}
-use Prim.Native.Nat.{◌-◌, ◌≤◌, zero-le}
+use mathlib.Core.List.{append-nil}
+use Prim.Native.Nat.{zero-le}
 use native.Mathlib.Omega.{arith}
 use native.Mathlib.Numerals.{add-one}
-use lib.ListN.{length, drop, length-set, drop_of_length-le}
+use lib.ListN.{length, length-set, drop_of_length-le}
 use Rattle.rules.specs.Words.{range}
 use Rattle.rules.specs.Launch.{launch_byte, launch_table}
 use Rattle.laws.proofs.Ranges.{filled_more}

@@ -1,14 +1,10 @@
--- The loop's invariant: what was passed is launch's, the rest as it was.
--- The measure is the rest's length.
-use mathlib.Core.Path.{◌≡◌, refl, ◌∙◌}
-use mathlib.Core.List.{map, ◌++◌, append-nil}
-use Prim.Native.Nat.{◌-◌, ◌≤◌, zero-le}
-use native.Mathlib.Omega.{arith}
-use native.Mathlib.Numerals.{add-one}
-use lib.ListN.{length, drop, length-set, drop_of_length-le}
+-- The loop's invariant: what was passed is launch's, the rest as it was. The measure is the rest's length.
+use mathlib.Core.Path.{◌≡◌}
+use mathlib.Core.List.{map, ◌++◌}
+use Prim.Native.Nat.{◌-◌, ◌≤◌}
+use lib.ListN.{length, drop}
 use Rattle.rules.specs.Words.{range}
-use Rattle.rules.specs.Launch.{launch_byte, launch_table}
-use Rattle.laws.proofs.Ranges.{filled_more}
+use Rattle.rules.specs.Launch.{launch_byte}
 use Rattle.monitor.proofs.launch.make_table.Given as goal
 
 abbrev pub invariant-loop-p : goal.invariant-loop-p

@@ -32,7 +32,7 @@ pub returns-then-live-ne1 : goal.returns-then-live-ne1
 unfolding MarkPromise sheet_sized record_size records may_mark is_live fields record_at parted
 returns-then-live-ne1 c =
     mark_refused _ _ _ (eq-eqb _ _ c.if-sheet-ne-SHEET_SIZE.false)
-    (rw (lt-ltb _ _ c.if-number-ge-RECORDS.false, le-leb c.args.running 1 (omega arith), ← c.byte-live.ensures, ne_eqb _ 1 c.if-live-ne1.true))
+    (rw (lt-ltb _ _ c.if-number-ge-RECORDS.false, le-leb c.args.running 1 (omega arith), ← c.byte-live.ensures, ne_eqb c.byte-live.result 1 (omega arith)))
 
 pub put_byte-requires : goal.put_byte-requires
 unfolding records record_size
@@ -42,5 +42,5 @@ pub returns : goal.returns
 unfolding MarkPromise sheet_sized record_size records may_mark is_live fields record_at parted
 returns c =
     mark_done _ _ _ _ (eq-eqb _ _ c.if-sheet-ne-SHEET_SIZE.false)
-    (rw (lt-ltb _ _ c.if-number-ge-RECORDS.false, le-leb c.args.running 1 (omega arith), ← c.byte-live.ensures, eq-eqb _ 1 c.if-live-ne1.false))
-    c.put_byte.auto.0 c.put_byte.ensures
+    (rw (lt-ltb _ _ c.if-number-ge-RECORDS.false, le-leb c.args.running 1 (omega arith), ← c.byte-live.ensures, eq-eqb c.byte-live.result 1 (omega arith)))
+    c.put_byte.auto.s c.put_byte.ensures
