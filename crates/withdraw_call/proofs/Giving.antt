@@ -1,11 +1,11 @@
 -- Pages given back, one list of them after another, and what that is on the machine.
 use mathlib.Core.Path.{◌≡◌, refl, sym, ◌∙◌, ap}
 use mathlib.Core.List.{List, [], ◌∷◌, ◌++◌}
-use Prim.Native.Nat.{ℕ, zero, suc, ◌+◌, ◌-◌, ◌*◌, ◌/◌, ◌<◌, ◌≤◌, zero-le}
+use Prim.Native.Nat.{ℕ, ◌+◌, ◌-◌, ◌*◌, ◌/◌, ◌<◌, ◌≤◌}
 use native.Mathlib.Omega.{arith}
 use native.Mathlib.Numerals.{add-one}
 use lib.ListN.{length, get_or, take, drop, length-append, take-append-drop}
-use lib.Seq.{length-take-le, take_at, take_all}
+use lib.Seq.{length-take-le, take_at}
 use Rattle.rules.specs.Words.{page_size, record_size, little, places, each}
 use Rattle.rules.specs.Machine.{Lent, page_of, offset_of, own, grant, change, write, with_memory, written}
 use Rattle.rules.specs.Calls.{is_free, give_back, gpas, withdrawn_pages, withdrawn}
@@ -57,15 +57,6 @@ given_step vmpl page at p memory table memory' table' memory'' table'' n r h bel
     (given_more vmpl page at memory table (places is_free 0 (take p table)) (places is_free p (get_or table p 0 ∷ [])) memory' table' memory'' table'' n r below g (rw same at k))
 
 module _ (vmpl page at room : ℕ) (memory table memory' table' : List ℕ) (n : ℕ) where
-  -- all pages passed, and room for those that were free
-  pub given_all : (p : ℕ) → length table ≤ p → n ≤ room → Given vmpl page at (places is_free 0 (take p table)) memory table memory' table' n
-      → Given vmpl page at (take room (places is_free 0 table)) memory table memory' table' n
-  given_all p h k g =
-      let whole : take p table ≡ table = take_all p table h in
-      let all : take room (places is_free 0 table) ≡ places is_free 0 table
-      = take_all room (places is_free 0 table) (omega (arith, rw whole at g.many)) in
-      rw all (rw whole at g)
-
   -- no room for more
   pub given_full : (p : ℕ) → n ≡ room → Given vmpl page at (places is_free 0 (take p table)) memory table memory' table' n
       → Given vmpl page at (take room (places is_free 0 table)) memory table memory' table' n
@@ -74,12 +65,6 @@ module _ (vmpl page at room : ℕ) (memory table memory' table' : List ℕ) (n :
       let split : places is_free 0 table ≡ front ++ places is_free (0 + length (take p table)) (drop p table)
       = ap (places is_free 0) (sym (take-append-drop p table)) ∙ places_append is_free 0 (take p table) (drop p table) in
       rw (split, take_at front (places is_free (0 + length (take p table)) (drop p table)) room (sym g.many ∙ e)) g
-
--- no more than there is room for
-pub take_most : (n : ℕ) (ps : List ℕ) → length (take n ps) ≤ n
-take_most zero ps = zero-le
-take_most (suc n) [] = zero-le
-take_most (suc n) (p ∷ ps) = omega (arith, take_most n ps)
 
 -- ---- the whole call
 

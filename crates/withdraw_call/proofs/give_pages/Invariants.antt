@@ -1,14 +1,11 @@
 -- The loop's invariant: of the pages passed the free ones are given, and there is room for them.
 -- The measure is what is left of the table.
-use mathlib.Core.Path.{◌≡◌, refl, ◌∙◌}
-use Prim.Native.Nat.{◌+◌, ◌-◌, ◌*◌, ◌<◌, ◌≤◌, zero-le}
-use native.Mathlib.Omega.{arith}
-use lib.ListN.{length, get_or, take}
-use Rattle.rules.specs.Words.{page_size, places}
+use mathlib.Core.Path.{◌≡◌}
+use Prim.Native.Nat.{◌-◌, ◌≤◌}
+use lib.ListN.{length, take}
+use Rattle.rules.specs.Words.{places}
 use Rattle.rules.specs.Calls.{is_free}
 use Rattle.withdraw_call.specs.Given.{Given}
-use Rattle.laws.proofs.Parts.{same_parts}
-use Rattle.withdraw_call.proofs.Giving.{given_none, given_all, given_full, one_place, given_step}
 use Rattle.withdraw_call.proofs.give_pages.Given as goal
 
 abbrev pub invariant-loop-p : goal.invariant-loop-p
