@@ -1,43 +1,26 @@
 -- Each refusal is the definition's, in its order, and what is made is the definition's.
-use mathlib.Core.Path.{◌≡◌, sym, ◌∙◌, ap₂}
-use Prim.Native.Nat.{ℕ}
-use native.Mathlib.Omega.{arith}
+use mathlib.Core.Path.{◌≡◌, sym, ◌∙◌}
+use mathlib.Core.Bool.{Bool, false}
+use Prim.Native.Nat.{ℕ, ◌%◌}
 use lib.Dec.{lit≤}
 use Rattle.rules.specs.Words.{page_size, record_size, records}
 use Rattle.rules.specs.Machine.{page_of}
-use Rattle.rules.specs.Calls.{unfit_pages}
-use Rattle.rules.specs.Flat.{Buffers, buffers, memory_sized}
+use Rattle.rules.specs.Calls.{unfit_pages, unfit_vcpu}
+use Rattle.rules.specs.Flat.{Buffers, memory_sized}
 use Rattle.laws.specs.Alone.{table_alone}
 use Rattle.laws.proofs.FlatSteps.{sizes}
 use Rattle.laws.proofs.Tested.{memory_tested, pages_tested, rows_tested, sheet_tested}
 use Rattle.sheet.proofs.At.{at}
 use Rattle.sheet.proofs.Caller.{caller_row}
-use Rattle.create_call.proofs.Ordered.{of_pages, fit_pages, fit_pool, odd_vmsa, odd_calling, bad_pages, bad_vcpu, Passed, no_record, no_page, done}
+use Rattle.create_call.proofs.Ordered.{of_pages, of_vcpu, without_table, fit_pages, fit_pool, odd_vmsa, odd_calling, bad_pages, bad_vcpu, Passed, no_record, no_page, done}
 use Rattle.create_call.proofs.create.Goals as goal
-use Rattle.create_call.proofs.create.Goals.{After-unfit_pages, Else-unfit_vcpu}
 
-abbrev lent : Start → Buffers
-lent s = buffers c.args.memory.now c.args.table.now c.args.sheet.now
-
--- what the test of the pages has told, whichever way their numbers are computed
-pages_told : (c : After-unfit_pages) → let a = c.args in
-    c.unfit_pages.result ≡ unfit_pages (of_pages c.byte-vmpl.result a.rcx a.rdx) (table_alone a.table.now)
-unfolding page_of page_size
-pages_told c =
-    let a = c.args in
-    c.unfit_pages.ensures
-    ∙ ap₂ (λ (x y : ℕ). unfit_pages (record { caller_vmpl = c.byte-vmpl.result; vmsa = x; calling = y; apic = 0 }) (table_alone a.table.now))
-    (omega arith) (omega arith)
-
-passed : (c : Else-unfit_vcpu) → let a = c.args in Passed c.byte-vmpl.result a.rcx a.rdx a.r8 (lent (goal.at.HERE c).Start)
-unfolding page_of page_size
-passed c =
-    record {
-      even = c.if-rcx-ne0.false;
-      too = c.if-rdx-ne0.false;
-      pages = sym (pages_told (goal.at.HERE c).After-unfit_pages) ∙ c.if-unfit_pages.false;
-      vcpu = sym c.unfit_vcpu.ensures ∙ c.if-unfit_vcpu.false;
-    }
+-- what the tests have shown, once those of the pages and of the vCPU are passed
+passed : (v rcx rdx r8 : ℕ) (b : Buffers) {t u : Bool} → rcx % page_size ≡ 0 → rdx % page_size ≡ 0
+    → t ≡ unfit_pages (of_pages v rcx rdx) (table_alone b.table) → t ≡ false
+    → u ≡ unfit_vcpu (of_vcpu v rcx r8) (without_table b) → u ≡ false → Passed v rcx rdx r8 b
+passed v rcx rdx r8 b even too pages fit vcpu able =
+    record { even = even; too = too; pages = sym pages ∙ fit; vcpu = sym vcpu ∙ able }
 
 pub returns-then-rcx-ne0 : goal.returns-then-rcx-ne0
 unfolding page_size
@@ -51,39 +34,39 @@ pub byte-vmpl-requires : goal.byte-vmpl-requires
 byte-vmpl-requires c = at (caller_row c.requires) _ _ (lit≤ tt)
 
 pub returns-then-unfit_pages : goal.returns-then-unfit_pages
-unfolding page_size record_size
+unfolding page_of page_size record_size
 returns-then-unfit_pages c =
-    bad_pages _ _ _ _ _ c.byte-vmpl.ensures c.if-rcx-ne0.false c.if-rdx-ne0.false (sym (pages_told (goal.at.returns-then-unfit_pages c).After-unfit_pages) ∙ c.if-unfit_pages.true)
+    bad_pages _ _ _ _ _ c.byte-vmpl.ensures c.if-rcx-ne0.false c.if-rdx-ne0.false (sym c.unfit_pages.ensures ∙ c.if-unfit_pages.true)
 
 pub unfit_vcpu-requires : goal.unfit_vcpu-requires
 unfolding page_of page_size
 unfit_vcpu-requires c =
     let tested = c.requires in
-    let fit = fit_pages _ _ _ _ (sym (pages_told (goal.at.unfit_vcpu-requires c).After-byte-vmpl) ∙ c.if-unfit_pages.false) in
+    let fit = fit_pages c.byte-vmpl.result c.args.rcx c.args.rdx _ (sym c.unfit_pages.ensures ∙ c.if-unfit_pages.false) in
     record { page = rw (pages_tested _ _ tested) fit.0; whole = sheet_tested _ _ tested }
 
 pub returns-then-unfit_vcpu : goal.returns-then-unfit_vcpu
 unfolding page_of page_size record_size
 returns-then-unfit_vcpu c =
     bad_vcpu _ _ _ _ _ c.byte-vmpl.ensures c.if-rcx-ne0.false c.if-rdx-ne0.false
-    (sym (pages_told (goal.at.returns-then-unfit_vcpu c).After-unfit_pages) ∙ c.if-unfit_pages.false) (sym c.unfit_vcpu.ensures ∙ c.if-unfit_vcpu.true)
+    (sym c.unfit_pages.ensures ∙ c.if-unfit_pages.false) (sym c.unfit_vcpu.ensures ∙ c.if-unfit_vcpu.true)
 
 pub free_record-i-requires : goal.free_record-i-requires
 free_record-i-requires c = sheet_tested _ _ c.requires
 
 pub returns-then-i-ge-RECORDS : goal.returns-then-i-ge-RECORDS
-unfolding records record_size
-returns-then-i-ge-RECORDS c = no_record _ _ _ _ _ c.byte-vmpl.ensures (passed (goal.at.returns-then-i-ge-RECORDS c).Else-unfit_vcpu) c.free_record-i.ensures (rw (rows_tested _ _ c.requires) c.if-i-ge-RECORDS.true)
+unfolding page_of page_size records record_size
+returns-then-i-ge-RECORDS c = no_record _ _ _ _ _ c.byte-vmpl.ensures (passed _ _ _ _ _ c.if-rcx-ne0.false c.if-rdx-ne0.false c.unfit_pages.ensures c.if-unfit_pages.false c.unfit_vcpu.ensures c.if-unfit_vcpu.false) c.free_record-i.ensures (rw (rows_tested _ _ c.requires) c.if-i-ge-RECORDS.true)
 
 pub returns-then-lacks_page : goal.returns-then-lacks_page
-unfolding records record_size
+unfolding page_of page_size records record_size
 returns-then-lacks_page c =
-    no_page _ _ _ _ _ c.byte-vmpl.ensures (passed (goal.at.returns-then-lacks_page c).Else-unfit_vcpu) c.free_record-i.ensures (rw (rows_tested _ _ c.requires) c.if-i-ge-RECORDS.false) (sym c.lacks_page.ensures ∙ c.if-lacks_page.true)
+    no_page _ _ _ _ _ c.byte-vmpl.ensures (passed _ _ _ _ _ c.if-rcx-ne0.false c.if-rdx-ne0.false c.unfit_pages.ensures c.if-unfit_pages.false c.unfit_vcpu.ensures c.if-unfit_vcpu.false) c.free_record-i.ensures (rw (rows_tested _ _ c.requires) c.if-i-ge-RECORDS.false) (sym c.lacks_page.ensures ∙ c.if-lacks_page.true)
 
 pub make-requires : goal.make-requires
 unfolding page_of page_size records memory_sized
 make-requires c =
-    let tested = c.requires in let pages = fit_pages _ _ _ _ (passed (goal.at.make-requires c).Else-unfit_vcpu).pages in
+    let tested = c.requires in let pages = fit_pages c.byte-vmpl.result c.args.rcx c.args.rdx _ (sym c.unfit_pages.ensures ∙ c.if-unfit_pages.false) in
     record {
       pages = pages_tested _ _ tested;
       most = (sizes _ _ (memory_tested _ _ tested)).most;
@@ -97,4 +80,4 @@ make-requires c =
 pub returns : goal.returns
 unfolding page_of page_size records record_size
 returns c =
-    done _ _ _ _ _ c.byte-vmpl.ensures (passed (goal.at.returns c).Else-unfit_vcpu) c.free_record-i.ensures (rw (rows_tested _ _ c.requires) c.if-i-ge-RECORDS.false) (sym c.lacks_page.ensures ∙ c.if-lacks_page.false) c.make.ensures
+    done _ _ _ _ _ c.byte-vmpl.ensures (passed _ _ _ _ _ c.if-rcx-ne0.false c.if-rdx-ne0.false c.unfit_pages.ensures c.if-unfit_pages.false c.unfit_vcpu.ensures c.if-unfit_vcpu.false) c.free_record-i.ensures (rw (rows_tested _ _ c.requires) c.if-i-ge-RECORDS.false) (sym c.lacks_page.ensures ∙ c.if-lacks_page.false) c.make.ensures

@@ -1,8 +1,5 @@
 -- The trailing zeros of the free marks are as many as the records before the lowest that is not live.
 use native.Mathlib.Omega.{arith}
-use native.Mathlib.Nat.{lt_of_le_of_lt}
-use lib.Count.{trailing_le}
-use lib.Dec.{lit<}
 use Rattle.rules.specs.Words.{records, record_size}
 use Rattle.rules.specs.Machine.{is_live}
 use Rattle.rules.specs.Flat.{parts}

@@ -1,10 +1,9 @@
-use mathlib.Core.Path.{◌≡◌, refl, ◌∙◌, ap}
-use mathlib.Core.Logic.{⊎_elim}
+use mathlib.Core.Path.{refl, ◌∙◌, ap}
 use mathlib.Core.List.{[]}
-use Prim.Native.Nat.{◌-◌, ◌≤◌, ◌<◌, zero-le}
+use Prim.Native.Nat.{◌<◌, zero-le}
 use native.Mathlib.Omega.{arith}
 use lib.Dec.{lit≤}
-use lib.ListN.{length, take}
+use lib.ListN.{length}
 use lib.Seq.{take_all}
 use borrow.Author.Tests.{eq-eqb, ne_eqb}
 use Rattle.rules.specs.Words.{records, record_size}
@@ -14,6 +13,7 @@ use Rattle.laws.specs.Marks.{marks}
 use Rattle.laws.proofs.Marks.{marks_set, marks_left}
 use Rattle.sheet.proofs.At.{at, rows_of}
 use Rattle.create_call.proofs.live_marks.Goals as goal
+use Rattle.create_call.proofs.live_marks.Goals.{then-live-eq1, else-live-eq1}
 
 pub loop-i-init : goal.loop-i-init
 unfolding marks
@@ -22,14 +22,6 @@ loop-i-init c = (zero-le, refl)
 pub byte-live-requires : goal.byte-live-requires
 unfolding records
 byte-live-requires c = at (record { sized = c.requires; below = omega arith }) _ _ (lit≤ tt)
-
-pub overflow_shl-marks : goal.overflow_shl-marks
-unfolding records
-overflow_shl-marks c = omega arith
-
-pub overflow_add-i : goal.overflow_add-i
-unfolding records
-overflow_add-i c = omega arith
 
 pub loop-i-smaller : goal.loop-i-smaller
 unfolding records
@@ -44,10 +36,10 @@ loop-i-preserved c =
     let below : i < length rows = omega (arith, rows_of sheet c.requires) in
     let live = c.byte-live.ensures in (
       omega arith,
-      ⊎_elim
-          (λ w. w.1 ∙ rw c.loop-i.invariant.1 (marks_set is_live rows i [] below 64 (omega arith) (rw (← live, eq-eqb _ 1 w.0.taken))))
-          (λ w. w.1 ∙ rw c.loop-i.invariant.1 (marks_left is_live rows i [] below (rw (← live, ne_eqb _ 1 w.0.left))))
-          c.if-live-eq1.branch,
+      elim c.if-live-eq1.branch [
+      | then-live-eq1 w ↦ w.marks-is ∙ rw c.loop-i.invariant.1 (marks_set is_live rows i [] below 64 (omega arith) (rw (← live, eq-eqb _ 1 w.if-live-eq1.true)))
+      | else-live-eq1 w ↦ w.marks-is ∙ rw c.loop-i.invariant.1 (marks_left is_live rows i [] below (rw (← live, ne_eqb _ 1 w.if-live-eq1.false)))
+      ],
     )
 
 pub returns : goal.returns

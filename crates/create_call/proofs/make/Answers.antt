@@ -29,11 +29,6 @@ overflow_cast-v-2 c = omega (arith, c.requires.calling_fits, c.requires.most)
 pub overflow_cast-v-3 : goal.overflow_cast-v-3
 overflow_cast-v-3 c = let small = pool_small _ _ _ c.requires.most c.requires.pool_fits c.pool_page-pool.ensures in omega arith
 
-pub mark_pages-requires : goal.mark_pages-requires
-mark_pages-requires c =
-    let f = c.requires in let e = c.pool_page-pool.ensures in
-    record { vmsa_below = f.vmsa_fits; calling_below = f.calling_fits; pool_below = λ t. rw (e, t) (f.pool_fits t); pool_is = e }
-
 pub returns : goal.returns
 unfolding parted new_record page_at free_page
 returns c =

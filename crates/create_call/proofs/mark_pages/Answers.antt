@@ -5,9 +5,6 @@ use Rattle.rules.specs.Machine.{own, revoke}
 use Rattle.create_call.proofs.Made.{table_made}
 use Rattle.create_call.proofs.mark_pages.Goals as goal
 
-pub mark_pool-requires : goal.mark_pool-requires
-mark_pool-requires c = λ n. simp length-set (c.requires.pool_below n)
-
 pub returns : goal.returns
 returns c =
     let a = c.args in let table = a.table.now in
