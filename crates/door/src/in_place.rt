@@ -1,6 +1,5 @@
 // The call for a caller in Rattle, who lends the registers as one record and finds it changed in place. The promise is the one of `call::call`, which
 // takes and returns the registers by value; here the record that was lent is what came back. There is no `requires`, and nothing is assumed.
-// A reference to a struct is what the borrow checker does not cover: the proof is a walk by hand.
 ghost use Rattle.rules.specs.Flat.{buffers};
 ghost use Rattle.rules.specs.Promises.{CallPromise};
 

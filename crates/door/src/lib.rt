@@ -102,6 +102,7 @@ fn outcome(answer: Outcome) -> u32
 }
 
 // RAX, RCX, RDX, R8, R9 and the exit reason, eight bytes each.
+#[tactic(auto, unfolding(rules::specs::Words::registers_size))]
 fn read_registers(bytes: &[u8]) -> Registers
     requires { length bytes.now ≡ registers_size }
     ensures { result ≡ registers_of bytes.now }
@@ -116,6 +117,7 @@ fn read_registers(bytes: &[u8]) -> Registers
     }
 }
 
+#[tactic(auto, unfolding(rules::specs::Words::registers_size))]
 fn write_registers(bytes: &mut [u8], g: Registers)
     requires { length bytes.old ≡ registers_size }
     ensures { bytes.new ≡ register_bytes g }

@@ -1,6 +1,6 @@
 // A caller in Rattle: it lends its registers to `door::in_place::call` as one record, and finds them changed where they lie. It makes a machine of three
 // pages and asks a Query. `lent` is proved to give what the call gives; for the rest the program promises nothing, and what it writes is held to the file
-// stdout beside src. Nothing is assumed but what the C library's write does.
+// stdout beside src. Nothing is assumed: what becomes of the bytes that it writes is outside the proofs.
 #![tactic(auto)]
 
 ghost use Rattle.rules.specs.Flat.{buffers};
@@ -21,8 +21,7 @@ fn register(out: Stdout, name: &[u8], n: u64) -> io::Result<()> {
     println!(out; " 0x{n:09x}")
 }
 
-// The registers are lent, and the record that was lent is handed out: the promise is again the one of `call::call`. A function that makes a reference to
-// a struct is proved by hand; who calls this one needs no walk.
+// The registers are lent, and the record that was lent is handed out: the promise is again the one of `call::call`.
 fn lent(
     memory: &mut [u8],
     table: &mut [u8],

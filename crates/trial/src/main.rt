@@ -1,7 +1,7 @@
 // The trial: a night on sixteen pages, which walks the rows of document 01 in their order by the script that it reads, the file stdin beside src. Each
 // step has what is asked, what the paper says comes of it, and what came of it; the last line counts the steps that came out as the paper says. It promises
-// nothing of its own but the marks of its map; what it writes is held to the file stdout beside src. Nothing is assumed but what the C library's read and
-// write do.
+// nothing of its own but the marks of its map; what it writes is held to the file stdout beside src. Nothing is assumed: what the streams
+// give and take is outside the proofs.
 #![tactic(auto)]
 
 mod guest;
