@@ -20,7 +20,10 @@ fn store(
     gpa: usize,
     bytes: &[u8],
 ) -> io::Result<()> {
-    seen(out, monitor::steps::store(memory, table, 1, gpa / 4096, gpa % 4096, bytes))
+    seen(
+        out,
+        monitor::steps::store(memory, table, 1, gpa / 4096, gpa % 4096, bytes),
+    )
 }
 
 // A number of eight bytes.

@@ -4,6 +4,8 @@
 // give and take is outside the proofs.
 #![tactic(auto)]
 
+ghost use Rattle.std.specs.Prelude.{◌≤◌, IfOk, length};
+
 mod guest;
 mod line;
 mod show;
@@ -59,7 +61,9 @@ fn walk(
 }
 
 // Reads until the script is full or the input ends, and gives how many bytes came.
-fn read_script(mut input: Stdin, script: &mut [u8; 65536]) -> io::Result<usize> {
+fn read_script(mut input: Stdin, script: &mut [u8; 65536]) -> io::Result<usize>
+    ensures { IfOk result (λ held. held ≤ length script.new) }
+{
     let mut held = 0;
     for _ in 0..script.len() {
         let came = input.read(&mut script[held..])?;

@@ -37,8 +37,8 @@ loop-i-preserved c =
     let live = c.byte-live.ensures in (
       omega arith,
       elim c.if-live-eq1.branch [
-      | then-live-eq1 w ↦ w.marks-is ∙ rw c.loop-i.invariant.1 (marks_set is_live rows i [] below 64 (omega arith) (rw (← live, eq-eqb _ 1 w.if-live-eq1.true)))
-      | else-live-eq1 w ↦ w.marks-is ∙ rw c.loop-i.invariant.1 (marks_left is_live rows i [] below (rw (← live, ne_eqb _ 1 w.if-live-eq1.false)))
+        | then-live-eq1 w ↦ w.marks-is ∙ rw c.loop-i.invariant.1 (marks_set is_live rows i [] below 64 (omega arith) (rw (← live, eq-eqb _ 1 w.if-live-eq1.true)))
+        | else-live-eq1 w ↦ w.marks-is ∙ rw c.loop-i.invariant.1 (marks_left is_live rows i [] below (rw (← live, ne_eqb _ 1 w.if-live-eq1.false)))
       ],
     )
 

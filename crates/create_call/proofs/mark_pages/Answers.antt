@@ -1,6 +1,6 @@
 -- The changes of the table, in the definition's order.
 use mathlib.Core.Path.{◌≡◌, ◌∙◌, ap}
-use lib.ListN.{get_or, length-set}
+use lib.ListN.{get_or}
 use Rattle.rules.specs.Machine.{own, revoke}
 use Rattle.create_call.proofs.Made.{table_made}
 use Rattle.create_call.proofs.mark_pages.Goals as goal

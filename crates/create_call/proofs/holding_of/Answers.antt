@@ -1,1 +1,0 @@
-use Rattle.create_call.proofs.holding_of.Goals as goal

@@ -1,1 +1,0 @@
-use Rattle.create_call.proofs.lacks_page.Goals as goal

@@ -1,0 +1,10 @@
+-- `trial::line::next`: the place is between where the line begins and the text's end. The loop's invariant says the same. The measure is the rest of the
+-- Text. Assumes nothing.
+use Rattle.std.proofs.Common.{◌-◌, ◌≤◌, length, arith}
+use Rattle.trial.proofs.line.next.Given as goal
+
+abbrev pub invariant-loop-to : goal.invariant-loop-to
+invariant-loop-to l = (l.at ≤ l.to) × (l.to ≤ length l.text)
+
+abbrev pub decreases-loop-to : goal.decreases-loop-to
+decreases-loop-to l = length l.text - l.to

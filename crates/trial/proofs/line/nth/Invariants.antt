@@ -1,0 +1,10 @@
+-- `trial::line::nth` is safe and ends. The loop's invariant: at most n lines are passed, and the place is in the text or at its end. The measure is the
+-- Lines that are left. Assumes nothing.
+use Rattle.std.proofs.Common.{◌-◌, ◌≤◌, length, arith, rules}
+use Rattle.trial.proofs.line.nth.Given as goal
+
+abbrev pub invariant-loop-k : goal.invariant-loop-k
+invariant-loop-k l = (l.k ≤ l.n) × (l.at ≤ length l.text)
+
+abbrev pub decreases-loop-k : goal.decreases-loop-k
+decreases-loop-k l = l.n - l.k

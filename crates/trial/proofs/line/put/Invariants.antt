@@ -1,0 +1,10 @@
+-- `trial::line::put` is safe and ends. The loop's invariant: the place in the text is at most its length, and that in the line before its end. The measure is
+-- The rest of the text. Assumes nothing.
+use Rattle.std.proofs.Common.{◌-◌, ◌<◌, ◌≤◌, length, arith, rules}
+use Rattle.trial.proofs.line.put.Given as goal
+
+abbrev pub invariant-loop-i : goal.invariant-loop-i
+invariant-loop-i l = (l.i ≤ length l.text) × (l.to < 128)
+
+abbrev pub decreases-loop-i : goal.decreases-loop-i
+decreases-loop-i l = length l.text - l.i

@@ -1,0 +1,9 @@
+-- `trial::show::stands` is safe and ends. The loop's invariant: the place is at most 16. The measure is the places that are left.
+use Rattle.std.proofs.Common.{◌-◌, ◌≤◌, arith, rules}
+use Rattle.trial.proofs.show.stands.Given as goal
+
+abbrev pub invariant-loop-i : goal.invariant-loop-i
+invariant-loop-i l = l.i ≤ 16
+
+abbrev pub decreases-loop-i : goal.decreases-loop-i
+decreases-loop-i l = 16 - l.i
