@@ -176,13 +176,7 @@ fn located(answer: Located) -> u32
     }
 }
 
-pub fn monitor_announce(
-    page: &mut [u8],
-    base: u64,
-    size: u64,
-    area: u64,
-    vmpl: u8,
-) -> u32
+pub fn monitor_announce(page: &mut [u8], base: u64, size: u64, area: u64, vmpl: u8) -> u32
     ensures { MonitorAnnouncePromise base size area vmpl page.old (record { answer = result; after = page.new }) }
 {
     located(discovery::announce(page, base, size, area, vmpl))

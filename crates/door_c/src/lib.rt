@@ -30,7 +30,18 @@ pub extern "C" fn monitor_launch(
           after = buffers memory.new table.new sheet.new;
         }) }
 {
-    door::monitor_launch(memory, table, sheet, n, monitor_first, monitor_count, vmsa_page, calling_page, apic_id, valid_below)
+    door::monitor_launch(
+        memory,
+        table,
+        sheet,
+        n,
+        monitor_first,
+        monitor_count,
+        vmsa_page,
+        calling_page,
+        apic_id,
+        valid_below,
+    )
 }
 
 #[unsafe(no_mangle)]

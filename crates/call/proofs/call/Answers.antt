@@ -61,7 +61,7 @@ unfolding CallPromise no_call
 returns-then-g-ne1027 c =
     let t = tested _ _ _ (sym c.fits-fits.ensures ∙ c.if-not-fits.false) (omega arith) _ (sym c.bad_sheet.ensures ∙ c.if-bad_sheet.false) in
     let made : no_call c.args.caller c.args.g (parted (buffers c.args.memory.now c.args.table.now c.args.sheet.now)) ≡ true =
-        rw (← c.pending.ensures, ne_eqb _ _ c.if-pending-eq0.false, ne_eqb c.args.g.reason 0x403 (omega arith)) in
+    rw (← c.pending.ensures, ne_eqb _ _ c.if-pending-eq0.false, ne_eqb c.args.g.reason 0x403 (omega arith)) in
     rw c.left-then-g-ne1027.ensures (call_none _ _ _ t made)
 
 pub handle-told-requires : goal.handle-told-requires
@@ -78,6 +78,6 @@ unfolding CallPromise no_call
 returns c =
     let t = tested _ _ _ (sym c.fits-fits.ensures ∙ c.if-not-fits.false) (omega arith) _ (sym c.bad_sheet.ensures ∙ c.if-bad_sheet.false) in
     let made : no_call c.args.caller c.args.g (parted (buffers c.args.memory.now c.args.table.now c.args.sheet.now)) ≡ false =
-        rw (← c.pending.ensures, ne_eqb _ _ c.if-pending-eq0.false, eq-eqb c.args.g.reason 0x403 (omega arith)) in
+    rw (← c.pending.ensures, ne_eqb _ _ c.if-pending-eq0.false, eq-eqb c.args.g.reason 0x403 (omega arith)) in
     let kept = c.handle-told.auto in
     call_ended _ _ _ t made _ c.handle-told.ensures _ _ _ (same_sizes _ _ (c.finish.auto.memory ∙ kept.memory) kept.table kept.sheet) c.finish.ensures

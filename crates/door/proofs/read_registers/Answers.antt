@@ -1,5 +1,4 @@
 -- , a register at a time.
-use Rattle.rules.specs.Words.{registers_size}
 use Rattle.rules.specs.Flat.{registers_of}
 use Rattle.door.proofs.read_registers.Goals as goal
 

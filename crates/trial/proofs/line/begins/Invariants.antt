@@ -1,5 +1,5 @@
 -- `trial::line::begins` is safe and ends. The loop's invariant: the place is at most the text's length. The measure is the rest of the text.
-use Rattle.std.proofs.Common.{◌-◌, ◌≤◌, length, arith, rules}
+use Rattle.std.proofs.Common.{◌-◌, ◌≤◌, length}
 use Rattle.trial.proofs.line.begins.Given as goal
 
 abbrev pub invariant-loop-i : goal.invariant-loop-i

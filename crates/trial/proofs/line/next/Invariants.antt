@@ -1,6 +1,6 @@
 -- `trial::line::next`: the place is between where the line begins and the text's end. The loop's invariant says the same. The measure is the rest of the
 -- Text. Assumes nothing.
-use Rattle.std.proofs.Common.{◌-◌, ◌≤◌, length, arith}
+use Rattle.std.proofs.Common.{◌-◌, ◌≤◌, length}
 use Rattle.trial.proofs.line.next.Given as goal
 
 abbrev pub invariant-loop-to : goal.invariant-loop-to

@@ -1,6 +1,6 @@
 -- `trial::line::nth` is safe and ends. The loop's invariant: at most n lines are passed, and the place is in the text or at its end. The measure is the
 -- Lines that are left. Assumes nothing.
-use Rattle.std.proofs.Common.{◌-◌, ◌≤◌, length, arith, rules}
+use Rattle.std.proofs.Common.{◌-◌, ◌≤◌, length}
 use Rattle.trial.proofs.line.nth.Given as goal
 
 abbrev pub invariant-loop-k : goal.invariant-loop-k

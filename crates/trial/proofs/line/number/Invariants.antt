@@ -1,5 +1,5 @@
 -- `trial::line::number` is safe and ends. The loop's invariant: the place is at most the width. The measure is the bytes that are left.
-use Rattle.std.proofs.Common.{◌≤◌, arith, rules}
+use Rattle.std.proofs.Common.{◌≤◌}
 use Rattle.trial.proofs.line.number.Given as goal
 
 abbrev pub invariant-loop-i : goal.invariant-loop-i

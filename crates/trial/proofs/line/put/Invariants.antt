@@ -1,6 +1,6 @@
 -- `trial::line::put` is safe and ends. The loop's invariant: the place in the text is at most its length, and that in the line before its end. The measure is
 -- The rest of the text. Assumes nothing.
-use Rattle.std.proofs.Common.{◌-◌, ◌<◌, ◌≤◌, length, arith, rules}
+use Rattle.std.proofs.Common.{◌-◌, ◌<◌, ◌≤◌, length}
 use Rattle.trial.proofs.line.put.Given as goal
 
 abbrev pub invariant-loop-i : goal.invariant-loop-i

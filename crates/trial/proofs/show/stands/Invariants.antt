@@ -1,5 +1,5 @@
 -- `trial::show::stands` is safe and ends. The loop's invariant: the place is at most 16. The measure is the places that are left.
-use Rattle.std.proofs.Common.{◌-◌, ◌≤◌, arith, rules}
+use Rattle.std.proofs.Common.{◌-◌, ◌≤◌}
 use Rattle.trial.proofs.show.stands.Given as goal
 
 abbrev pub invariant-loop-i : goal.invariant-loop-i
