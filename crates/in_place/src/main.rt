@@ -76,7 +76,10 @@ fn main(rt: HostRuntime) -> io::Result<()> {
     let outcome = called.outcome;
     let after = called.registers;
     match outcome {
-        Outcome::Handled => say(out, b"Query with RCX 1: handled. The record that was lent now has\n")?,
+        Outcome::Handled => say(
+            out,
+            b"Query with RCX 1: handled. The record that was lent now has\n",
+        )?,
         _ => say(out, b"Query with RCX 1: not handled.\n")?,
     }
     register(out, b"RAX", after.rax)?;
