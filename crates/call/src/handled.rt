@@ -66,6 +66,7 @@ pub fn pending(memory: &[u8], table: &[u8], sheet: &[u8], caller: usize) -> u8
 }
 
 // First the pending byte, then the protocol, then the call.
+#[tactic(auto, unfolding(rules::specs::Call::handle, rules::specs::Answers::refuse, rules::specs::Call::with_rcx))]
 pub fn handle(
     memory: &mut [u8],
     table: &mut [u8],

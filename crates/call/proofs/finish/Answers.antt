@@ -19,11 +19,11 @@ pub returns-then-live-ne1 : goal.returns-then-live-ne1
 unfolding finish is_live record_at fields parted record_size with_lent
 returns-then-live-ne1 c =
     let live = c.byte-live in
-    rw (← live.ensures, ne_eqb live.result 1 (omega (arith, c.if-live-ne1.true)), c.set_flag.ensures)
+    rw (← live.ensures, ne_eqb live.result 1 (omega arith), c.set_flag.ensures)
 
 pub returns : goal.returns
 unfolding finish is_live record_at fields parted record_size with_lent with_rax with_rcx
 returns c =
     let code : c.number_of.result ≡ code_number c.args.told.code = c.number_of.ensures in
-    let live = eq-eqb c.byte-live.result 1 (omega (arith, c.if-live-ne1.false)) in
+    let live = eq-eqb c.byte-live.result 1 (omega arith) in
     rw (← c.byte-live.ensures, live, c.clear_pending.ensures, c.set_flag-2.ensures, ← code)

@@ -1,8 +1,9 @@
 -- Each return follows the definition's tests. The page number is compared with all its bits.
-use mathlib.Core.Path.{◌≡◌, sym, ◌∙◌}
+use mathlib.Core.Path.{◌≡◌, sym, ◌∙◌, ap}
 use mathlib.Core.Bool.{true, not, ◌&&◌, ◌||◌}
 use mathlib.Core.List.{List}
 use Prim.Native.Nat.{ℕ, ◌<◌, ◌/◌, ◌%◌}
+use native.Mathlib.Omega.{arith}
 use borrow.Author.Tests.{ne_eqb}
 use lib.Dec.{eqb}
 use lib.ListN.{length, get_or}
@@ -26,7 +27,11 @@ module _ (vmpl rcx : ℕ) (table : List ℕ) (good : usable vmpl (table_alone ta
 
 pub returns-then-not-usable : goal.returns-then-not-usable
 unfolding bad_list_page page_of page_size
-returns-then-not-usable c = rw (sym c.is_usable-usable.ensures ∙ c.if-not-usable.true)
+returns-then-not-usable c =
+    let a = c.args in
+    let told : usable a.vmpl (table_alone a.table.now) (page_of a.rcx) ≡ c.is_usable-usable.result =
+        sym (c.is_usable-usable.ensures ∙ ap (usable a.vmpl (table_alone a.table.now)) (omega arith)) in
+    rw (told ∙ c.if-not-usable.true)
 
 pub bounds-table-page : goal.bounds-table-page
 bounds-table-page c = below _ _ _ (sym c.is_usable-usable.ensures ∙ c.if-not-usable.false)

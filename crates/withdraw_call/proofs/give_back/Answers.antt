@@ -1,8 +1,9 @@
 -- A page in use is left alone, and a free one is listed and freed.
-use mathlib.Core.Path.{refl, sym, ◌∙◌}
+use mathlib.Core.Path.{◌≡◌, refl, sym, ◌∙◌}
+use lib.ListN.{get_or}
 use lib.Dec.{lit<}
 use Rattle.rules.specs.Words.{page_size, most_pages, little, places, each}
-use Rattle.rules.specs.Calls.{gpas}
+use Rattle.rules.specs.Calls.{is_free, gpas}
 use Rattle.withdraw_call.specs.Given.{freed}
 use Rattle.withdraw_call.proofs.Giving.{given_none}
 use native.Mathlib.Omega.{arith}
@@ -10,7 +11,9 @@ use Rattle.withdraw_call.proofs.give_back.Goals as goal
 
 pub returns-then-not-free : goal.returns-then-not-free
 unfolding places
-returns-then-not-free c = rw (sym c.is_free-free.ensures ∙ c.if-not-free.true) (given_none _ _ _ _ _)
+returns-then-not-free c =
+    let told : is_free (get_or c.args.table.now c.args.p 0) ≡ c.is_free-free.result = sym c.is_free-free.ensures in
+    rw (told ∙ c.if-not-free.true) (given_none _ _ _ _ _)
 
 pub overflow_mul-p : goal.overflow_mul-p
 unfolding most_pages
@@ -23,5 +26,6 @@ put_number8-requires c = let room = c.requires.0 in record { some = lit< tt; bel
 pub returns : goal.returns
 unfolding places each little gpas freed page_size
 returns c =
-    rw (sym c.is_free-free.ensures ∙ c.if-not-free.false)
+    let told : is_free (get_or c.args.table.now c.args.p 0) ≡ c.is_free-free.result = sym c.is_free-free.ensures in
+    rw (told ∙ c.if-not-free.false)
     (record { many = refl; freed_all = rw (c.granted.ensures, c.owned.ensures); listed = c.put_number8.ensures })

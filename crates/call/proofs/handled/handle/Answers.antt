@@ -7,10 +7,6 @@ use Rattle.rules.specs.Call.{handle, with_rcx}
 use Rattle.call.proofs.Chosen.{protocol_is}
 use Rattle.call.proofs.handled.handle.Goals as goal
 
-pub returns-then-pending-ge2 : goal.returns-then-pending-ge2
-unfolding handle refuse with_rcx
-returns-then-pending-ge2 c = rw (← c.pending.ensures, le-leb 2 c.pending.result (omega arith))
-
 pub returns-then-g-ne0 : goal.returns-then-g-ne0
 unfolding handle refuse with_rcx
 returns-then-g-ne0 c =
