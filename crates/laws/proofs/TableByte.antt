@@ -16,7 +16,7 @@ use Rattle.laws.proofs.Counts.{one}
 
 -- ---- one bit put into a number
 
--- n with bit k made v: `put_bit true` is with-bit, and `put_bit false` without-bit
+-- n with bit k made v: `put_bit true` is with_bit, and `put_bit false` without_bit
 abbrev pub put_bit : Bool → ℕ → ℕ → ℕ
 put_bit v k n = cond v (with_bit k n) (without_bit k n)
 
@@ -121,12 +121,12 @@ pub owner_own : (o b : ℕ) → ltb o 8 ≡ true → owner (own o b) ≡ o
 unfolding owner bits own
 owner_own o b h = omega (arith, ltb-true)
 
--- make-valid keeps the owner
+-- make_valid keeps the owner
 pub owner_make_valid : (b : ℕ) → owner (make_valid b) ≡ owner b
 unfolding make_valid
 owner_make_valid = owner_put true 0
 
--- make-invalid keeps the owner
+-- make_invalid keeps the owner
 pub owner_make_invalid : (b : ℕ) → owner (make_invalid b) ≡ owner b
 unfolding make_invalid
 owner_make_invalid = owner_put false 0
@@ -148,12 +148,12 @@ pub valid_own : (o b : ℕ) → ltb o 8 ≡ true → valid (own o b) ≡ valid b
 unfolding valid
 valid_own o = bit_own o 0
 
--- make-valid makes a page valid
+-- make_valid makes a page valid
 pub valid_make_valid : (b : ℕ) → valid (make_valid b) ≡ true
 unfolding make_valid valid
 valid_make_valid = bit_put true 3 3
 
--- make-invalid makes it not valid
+-- make_invalid makes it not valid
 pub valid_make_invalid : (b : ℕ) → valid (make_invalid b) ≡ false
 unfolding make_invalid valid
 valid_make_invalid = bit_put false 3 3
@@ -174,12 +174,12 @@ bit7_revoke = bit_permit false (λ v. true) 7
 pub bit7_own : (o b : ℕ) → ltb o 8 ≡ true → bit 7 (own o b) ≡ bit 7 b
 bit7_own o = bit_own o 4
 
--- make-valid keeps bit 7
+-- make_valid keeps bit 7
 pub bit7_make_valid : (b : ℕ) → bit 7 (make_valid b) ≡ bit 7 b
 unfolding make_valid
 bit7_make_valid = bit_put true 7 3
 
--- make-invalid keeps bit 7
+-- make_invalid keeps bit 7
 pub bit7_make_invalid : (b : ℕ) → bit 7 (make_invalid b) ≡ bit 7 b
 unfolding make_invalid
 bit7_make_invalid = bit_put false 7 3
@@ -223,12 +223,12 @@ pub permitted_own : (v o b : ℕ) → ltb o 8 ≡ true → permitted v (own o b)
 unfolding permitted
 permitted_own v o b h = rw bit_own
 
--- make-valid keeps it
+-- make_valid keeps it
 pub permitted_make_valid : (v b : ℕ) → permitted v (make_valid b) ≡ permitted v b
 unfolding make_valid
 permitted_make_valid = permitted_put true
 
--- make-invalid keeps it
+-- make_invalid keeps it
 pub permitted_make_invalid : (v b : ℕ) → permitted v (make_invalid b) ≡ permitted v b
 unfolding make_invalid
 permitted_make_invalid = permitted_put false
@@ -266,11 +266,11 @@ none_revoke b = simp (permissions, permitted_revoke)
 pub permissions_own : (o b : ℕ) → ltb o 8 ≡ true → bits 6 4 (own o b) ≡ bits 6 4 b
 permissions_own o b h = simp (permissions, permitted_own)
 
--- make-valid keeps them
+-- make_valid keeps them
 pub permissions_make_valid : (b : ℕ) → bits 6 4 (make_valid b) ≡ bits 6 4 b
 permissions_make_valid b = simp (permissions, permitted_make_valid)
 
--- make-invalid keeps them
+-- make_invalid keeps them
 pub permissions_make_invalid : (b : ℕ) → bits 6 4 (make_invalid b) ≡ bits 6 4 b
 permissions_make_invalid b = simp (permissions, permitted_make_invalid)
 

@@ -1,5 +1,5 @@
--- The words that the definitions are written in: the library's names, each with the library's meaning; the limits by name; numbers, their
--- bits and bytes; ranges, and what is looked for in a list.
+-- The words that the definitions are written in, beside the library's own: the limits by name; numbers, their bits and bytes; ranges, and what is
+-- looked for in a list.
 use Rattle.std.specs.Prelude.{ℕ, zero, suc, ◌+◌, ◌-◌, ◌*◌, ◌/◌, ◌%◌, ◌^◌, min, Bool, true, false, cond, not, ◌&&◌, ◌||◌, List, [], ◌∷◌, ◌++◌, map, leb, ltb, eqb, length, get_or, take, drop, set, replicate}
 use Rattle.std.proofs.lemmas.List.Edits.{sets}
 
