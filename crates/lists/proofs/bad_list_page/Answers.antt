@@ -30,7 +30,7 @@ unfolding bad_list_page page_of page_size
 returns-then-not-usable c =
     let a = c.args in
     let told : usable a.vmpl (table_alone a.table.now) (page_of a.rcx) ≡ c.is_usable-usable.result =
-        sym (c.is_usable-usable.ensures ∙ ap (usable a.vmpl (table_alone a.table.now)) (omega arith)) in
+    sym (c.is_usable-usable.ensures ∙ ap (usable a.vmpl (table_alone a.table.now)) (omega arith)) in
     rw (told ∙ c.if-not-usable.true)
 
 pub bounds-table-page : goal.bounds-table-page

@@ -1,4 +1,4 @@
--- `trial::line::begins` is safe and ends. The loop's invariant: the place is at most the text's length. The measure is the rest of the text.
+-- The place is at most the text's length; the measure is the rest of the text.
 use Rattle.std.proofs.Common.{◌-◌, ◌≤◌, length}
 use Rattle.trial.proofs.line.begins.Given as goal
 

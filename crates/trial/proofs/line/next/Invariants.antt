@@ -1,5 +1,4 @@
--- `trial::line::next`: the place is between where the line begins and the text's end. The loop's invariant says the same. The measure is the rest of the
--- Text. Assumes nothing.
+-- The place is between where the line begins and the text's end; the measure is the rest of the text.
 use Rattle.std.proofs.Common.{◌-◌, ◌≤◌, length}
 use Rattle.trial.proofs.line.next.Given as goal
 

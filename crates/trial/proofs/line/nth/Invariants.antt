@@ -1,5 +1,4 @@
--- `trial::line::nth` is safe and ends. The loop's invariant: at most n lines are passed, and the place is in the text or at its end. The measure is the
--- Lines that are left. Assumes nothing.
+-- At most n lines are passed, and the place is in the text or at its end; the measure is the lines that are left.
 use Rattle.std.proofs.Common.{◌-◌, ◌≤◌, length}
 use Rattle.trial.proofs.line.nth.Given as goal
 

@@ -1,4 +1,4 @@
--- `trial::line::number` is safe and ends. The loop's invariant: the place is at most the width. The measure is the bytes that are left.
+-- The place is at most the width; the measure is the bytes that are left.
 use Rattle.std.proofs.Common.{◌≤◌}
 use Rattle.trial.proofs.line.number.Given as goal
 

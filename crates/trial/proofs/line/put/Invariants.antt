@@ -1,5 +1,4 @@
--- `trial::line::put` is safe and ends. The loop's invariant: the place in the text is at most its length, and that in the line before its end. The measure is
--- The rest of the text. Assumes nothing.
+-- The place in the text is at most its length, and that in the line before its end; the measure is the rest of the text.
 use Rattle.std.proofs.Common.{◌-◌, ◌<◌, ◌≤◌, length}
 use Rattle.trial.proofs.line.put.Given as goal
 

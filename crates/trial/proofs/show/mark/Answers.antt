@@ -1,4 +1,4 @@
--- `trial::show::mark` gives the mark of Marks: all 256 bytes are tried by one test.
+-- The mark of Marks: all 256 bytes are tried by one test.
 use Rattle.std.proofs.Common.{◌≡◌, ℕ, zero, suc, ◌<◌, Bool, true, false, cond, ◌||◌, eqb, ◌⊎◌, sym, refl, inl, inr, true≢false, arith, ne_eqb, eqb-true}
 use borrow.Author.Tests.{eqb-false}
 use Rattle.rules.specs.Words.{bits, bit, between}

@@ -1,4 +1,4 @@
--- `trial::show::stands` is safe and ends. The loop's invariant: the place is at most 16. The measure is the places that are left.
+-- The place is at most 16; the measure is the places that are left.
 use Rattle.std.proofs.Common.{◌-◌, ◌≤◌}
 use Rattle.trial.proofs.show.stands.Given as goal
 
