@@ -29,6 +29,7 @@ pub fn efer_of(memory: &[u8], page: usize) -> u64
 }
 
 // VMPL not 1 to 3, or EFER bit 12 clear.
+#[tactic(auto, unfolding(rules::specs::Launch::unfit_vmsa, rules::specs::Words::between, rules::specs::Words::bit))]
 pub fn is_unfit(memory: &[u8], page: usize) -> bool
     requires { page < length (parts page_size memory.now) }
     ensures { result ≡ unfit_vmsa (get_or (parts page_size memory.now) page []) }

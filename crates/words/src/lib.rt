@@ -33,6 +33,7 @@ pub fn read8(s: &[u8], at: usize) -> u64
     (read4(s, at) as u64) + 4294967296 * (read4(s, at + 4) as u64)
 }
 
+#[tactic(auto, unfolding(rules::specs::Words::little))]
 pub fn write2(s: &mut [u8], at: usize, x: u16)
     requires { at + 2 ≤ length s.old }
     ensures { s.new ≡ sets s.old at (little 2 x) }

@@ -16,6 +16,7 @@ use Rattle.laws.specs.Tested.{Tested}
 use Rattle.laws.proofs.Tested.{sheet_tested, caller_below}
 use Rattle.call.proofs.Outcomes.{call_unsized, call_bad, call_none, call_ended}
 use Rattle.call.proofs.call.Goals as goal
+use Rattle.call.proofs.call.Goals.{Else-bad_sheet}
 
 -- what the first three tests have shown, once they are passed
 module _ (memory table sheet : List ℕ) (fits : memory_fits (length table) (length memory) ≡ true) (whole : length sheet ≡ 512) where
@@ -26,6 +27,9 @@ module _ (memory table sheet : List ℕ) (fits : memory_fits (length table) (len
   tested : (caller : ℕ) → bad_sheet (length table) caller (parts record_size sheet) ≡ false → Tested (buffers memory table sheet) caller
   unfolding bad_machine N parted
   tested caller shape = record { sized = sized; shape = shape }
+
+known : (c : Else-bad_sheet) → Tested (buffers c.args.memory.now c.args.table.now c.args.sheet.now) c.args.caller
+known c = tested _ _ _ (sym c.fits-fits.ensures ∙ c.if-not-fits.false) (omega arith) _ (sym c.bad_sheet.ensures ∙ c.if-bad_sheet.false)
 
 pub returns-then-not-fits : goal.returns-then-not-fits
 unfolding CallPromise well_sized memory_sized
@@ -48,35 +52,35 @@ returns-then-bad_sheet c =
     rw c.left-then-bad_sheet.ensures (call_bad _ _ _ well (sym c.bad_sheet.ensures ∙ c.if-bad_sheet.true))
 
 pub pending-requires : goal.pending-requires
-pending-requires c = tested _ _ _ (sym c.fits-fits.ensures ∙ c.if-not-fits.false) (omega arith) _ (sym c.bad_sheet.ensures ∙ c.if-bad_sheet.false)
+pending-requires c = known (goal.at.pending-requires c).Else-bad_sheet
 
 pub returns-then-pending-eq0 : goal.returns-then-pending-eq0
 unfolding CallPromise no_call
 returns-then-pending-eq0 c =
-    let t = tested _ _ _ (sym c.fits-fits.ensures ∙ c.if-not-fits.false) (omega arith) _ (sym c.bad_sheet.ensures ∙ c.if-bad_sheet.false) in
+    let t = known (goal.at.returns-then-pending-eq0 c).Else-bad_sheet in
     rw c.left-then-pending-eq0.ensures (call_none _ _ _ t (rw (← c.pending.ensures, eq-eqb _ _ c.if-pending-eq0.true)))
 
 pub returns-then-g-ne1027 : goal.returns-then-g-ne1027
 unfolding CallPromise no_call
 returns-then-g-ne1027 c =
-    let t = tested _ _ _ (sym c.fits-fits.ensures ∙ c.if-not-fits.false) (omega arith) _ (sym c.bad_sheet.ensures ∙ c.if-bad_sheet.false) in
+    let t = known (goal.at.returns-then-g-ne1027 c).Else-bad_sheet in
     let made : no_call c.args.caller c.args.g (parted (buffers c.args.memory.now c.args.table.now c.args.sheet.now)) ≡ true =
     rw (← c.pending.ensures, ne_eqb _ _ c.if-pending-eq0.false, ne_eqb c.args.g.reason 0x403 (omega arith)) in
     rw c.left-then-g-ne1027.ensures (call_none _ _ _ t made)
 
 pub handle-told-requires : goal.handle-told-requires
-handle-told-requires c = tested _ _ _ (sym c.fits-fits.ensures ∙ c.if-not-fits.false) (omega arith) _ (sym c.bad_sheet.ensures ∙ c.if-bad_sheet.false)
+handle-told-requires c = known (goal.at.handle-told-requires c).Else-bad_sheet
 
 pub finish-requires : goal.finish-requires
 unfolding record_size records
 finish-requires c =
-    let t = tested _ _ _ (sym c.fits-fits.ensures ∙ c.if-not-fits.false) (omega arith) _ (sym c.bad_sheet.ensures ∙ c.if-bad_sheet.false) in
+    let t = known (goal.at.finish-requires c).Else-bad_sheet in
     record { sized = c.handle-told.auto.sheet ∙ sheet_tested _ _ t; below = caller_below _ _ t }
 
 pub returns : goal.returns
 unfolding CallPromise no_call
 returns c =
-    let t = tested _ _ _ (sym c.fits-fits.ensures ∙ c.if-not-fits.false) (omega arith) _ (sym c.bad_sheet.ensures ∙ c.if-bad_sheet.false) in
+    let t = known (goal.at.returns c).Else-bad_sheet in
     let made : no_call c.args.caller c.args.g (parted (buffers c.args.memory.now c.args.table.now c.args.sheet.now)) ≡ false =
     rw (← c.pending.ensures, ne_eqb _ _ c.if-pending-eq0.false, eq-eqb c.args.g.reason 0x403 (omega arith)) in
     let kept = c.handle-told.auto in

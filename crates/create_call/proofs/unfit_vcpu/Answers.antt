@@ -1,6 +1,7 @@
 -- Each return follows the definition's tests in their order.
 use mathlib.Core.Path.{sym, ◌∙◌}
 use lib.Dec.{lit<, lit≤}
+use native.Mathlib.Omega.{arith}
 use borrow.Author.Tests.{lt-ltb, le-ltb, eq-eqb, ne_eqb}
 use Rattle.rules.specs.Words.{page_size, records, record_size}
 use Rattle.rules.specs.Machine.{page_at, startup, vcpu, record_at, fields}
@@ -18,7 +19,7 @@ returns-then-is_unfit c = rw (sym c.is_unfit.ensures ∙ c.if-is_unfit.true)
 pub returns-then-vmpl-caller_vmpl : goal.returns-then-vmpl-caller_vmpl
 unfolding unfit_vcpu page_at startup vcpu record_at parted fields page_size record_size
 returns-then-vmpl-caller_vmpl c =
-    rw (sym c.is_unfit.ensures ∙ c.if-is_unfit.false, ← c.vmpl_of-vmpl.ensures, lt-ltb _ _ c.if-vmpl-caller_vmpl.true)
+    rw (sym c.is_unfit.ensures ∙ c.if-is_unfit.false, ← c.vmpl_of-vmpl.ensures, lt-ltb c.vmpl_of-vmpl.result c.args.caller_vmpl (omega arith))
 
 pub number8-startup_features-requires : goal.number8-startup_features-requires
 unfolding records
@@ -27,7 +28,7 @@ number8-startup_features-requires c = at (record { sized = c.requires.whole; bel
 pub returns-then-features-startup_features : goal.returns-then-features-startup_features
 unfolding unfit_vcpu page_at startup vcpu record_at parted fields page_size record_size
 returns-then-features-startup_features c =
-    rw (sym c.is_unfit.ensures ∙ c.if-is_unfit.false, ← c.vmpl_of-vmpl.ensures, le-ltb _ _ c.if-vmpl-caller_vmpl.false, ← c.features_of-features.ensures, ← c.number8-startup_features.ensures, ne_eqb _ _ c.if-features-startup_features.true)
+    rw (sym c.is_unfit.ensures ∙ c.if-is_unfit.false, ← c.vmpl_of-vmpl.ensures, le-ltb c.vmpl_of-vmpl.result c.args.caller_vmpl (omega arith), ← c.features_of-features.ensures, ← c.number8-startup_features.ensures, ne_eqb _ _ c.if-features-startup_features.true)
 
 pub lowest-requires : goal.lowest-requires
 unfolding record_size
@@ -36,5 +37,5 @@ lowest-requires c = (c.requires.whole, lit≤ tt)
 pub returns : goal.returns
 unfolding unfit_vcpu page_at startup vcpu record_at parted fields page_size records record_size live_with
 returns c =
-    rw (sym c.is_unfit.ensures ∙ c.if-is_unfit.false, ← c.vmpl_of-vmpl.ensures, le-ltb _ _ c.if-vmpl-caller_vmpl.false, ← c.features_of-features.ensures, ← c.number8-startup_features.ensures, eq-eqb _ _ c.if-features-startup_features.false)
+    rw (sym c.is_unfit.ensures ∙ c.if-is_unfit.false, ← c.vmpl_of-vmpl.ensures, le-ltb c.vmpl_of-vmpl.result c.args.caller_vmpl (omega arith), ← c.features_of-features.ensures, ← c.number8-startup_features.ensures, eq-eqb _ _ c.if-features-startup_features.false)
     (exists_below _ _ c.requires.whole c.lowest.ensures)

@@ -1,6 +1,6 @@
 -- Each return follows the definition's tests. The page number is compared with all its bits.
 use mathlib.Core.Path.{◌≡◌, sym, ◌∙◌, ap}
-use mathlib.Core.Bool.{true, not, ◌&&◌, ◌||◌}
+use mathlib.Core.Bool.{Bool, true, not, ◌&&◌, ◌||◌}
 use mathlib.Core.List.{List}
 use Prim.Native.Nat.{ℕ, ◌<◌, ◌/◌, ◌%◌}
 use native.Mathlib.Omega.{arith}
@@ -14,39 +14,41 @@ use Rattle.laws.specs.Alone.{table_alone}
 use Rattle.laws.proofs.Usable.{usable→}
 use Rattle.lists.proofs.bad_list_page.Goals as goal
 
--- a page that rcx names and that is usable: it is of the table, and the definition goes on by its owner
-module _ (vmpl rcx : ℕ) (table : List ℕ) (good : usable vmpl (table_alone table) (rcx / 4096) ≡ true) where
-  below : rcx / 4096 < length table
-  unfolding N
-  below = (usable→ _ _ _ good).0
+-- a page that rcx names, whichever way its number was computed
+module _ (vmpl rcx p : ℕ) (table : List ℕ) {t : Bool} (asked : t ≡ usable vmpl (table_alone table) p) (same : p ≡ rcx / 4096) where
+  told : usable vmpl (table_alone table) (page_of rcx) ≡ t
+  unfolding page_of page_size
+  told = sym (asked ∙ ap (usable vmpl (table_alone table)) same)
 
-  by_owner : (o : ℕ) → o ≡ owner (get_or table (rcx / 4096) 0)
+  below : t ≡ true → p < length table
+  unfolding N
+  below good = (usable→ _ _ _ (sym asked ∙ good)).0
+
+  -- if it is usable the definition goes on by its owner
+  by_owner : t ≡ true → (o : ℕ) → o ≡ owner (get_or table p 0)
       → bad_list_page vmpl rcx (table_alone table) ≡ (not (eqb o 0) && not (eqb o 1) || eqb o 1 && eqb (rcx % 4096) 0)
   unfolding bad_list_page owned_by table_byte page_of offset_of page_size
-  by_owner o same = rw (good, ← same)
+  by_owner good o owned = rw (told ∙ good, ← same, ← owned)
 
 pub returns-then-not-usable : goal.returns-then-not-usable
-unfolding bad_list_page page_of page_size
-returns-then-not-usable c =
-    let a = c.args in
-    let told : usable a.vmpl (table_alone a.table.now) (page_of a.rcx) ≡ c.is_usable-usable.result =
-    sym (c.is_usable-usable.ensures ∙ ap (usable a.vmpl (table_alone a.table.now)) (omega arith)) in
-    rw (told ∙ c.if-not-usable.true)
+unfolding bad_list_page
+returns-then-not-usable c = rw (told _ c.args.rcx _ _ c.is_usable-usable.ensures (omega arith) ∙ c.if-not-usable.true)
 
 pub bounds-table-page : goal.bounds-table-page
-bounds-table-page c = below _ _ _ (sym c.is_usable-usable.ensures ∙ c.if-not-usable.false)
+bounds-table-page c = below _ c.args.rcx _ _ c.is_usable-usable.ensures (omega arith) c.if-not-usable.false
 
 pub returns-then-owner-eq0 : goal.returns-then-owner-eq0
 returns-then-owner-eq0 c =
-    let good = sym c.is_usable-usable.ensures ∙ c.if-not-usable.false in
-    rw (by_owner _ _ _ good _ c.owner_of-owner.ensures, c.if-owner-eq0.true)
+    rw (by_owner _ c.args.rcx _ _ c.is_usable-usable.ensures (omega arith) c.if-not-usable.false _ c.owner_of-owner.ensures, c.if-owner-eq0.true)
 
 pub returns-then-owner-ne1 : goal.returns-then-owner-ne1
 returns-then-owner-ne1 c =
-    let good = sym c.is_usable-usable.ensures ∙ c.if-not-usable.false in
-    rw (by_owner _ _ _ good _ c.owner_of-owner.ensures, ne_eqb _ 0 c.if-owner-eq0.false, ne_eqb _ 1 c.if-owner-ne1.true)
+    rw (
+      by_owner _ c.args.rcx _ _ c.is_usable-usable.ensures (omega arith) c.if-not-usable.false _ c.owner_of-owner.ensures,
+      ne_eqb _ 0 c.if-owner-eq0.false,
+      ne_eqb _ 1 c.if-owner-ne1.true,
+    )
 
 pub returns : goal.returns
 returns c =
-    let good = sym c.is_usable-usable.ensures ∙ c.if-not-usable.false in
-    rw (by_owner _ _ _ good _ c.owner_of-owner.ensures, c.if-owner-ne1.false)
+    rw (by_owner _ c.args.rcx _ _ c.is_usable-usable.ensures (omega arith) c.if-not-usable.false _ c.owner_of-owner.ensures, c.if-owner-ne1.false)
