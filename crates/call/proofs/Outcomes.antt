@@ -1,17 +1,30 @@
--- A call on flat bytes: where it is bad or none nothing changes, and where it is handled the buffers are those whose parts are the new machine.
-use mathlib.Core.Path.{◌≡◌, ◌∙◌}
+-- A call on flat bytes: where it is bad nothing changes, and else the buffers are those whose parts are the machine that comes back.
+use mathlib.Core.Path.{◌≡◌}
 use mathlib.Core.Bool.{true, false}
+use mathlib.Core.List.{List}
 use Prim.Native.Nat.{ℕ}
+use native.Mathlib.Omega.{arith}
+use lib.ListN.{length}
+use Rattle.rules.specs.Words.{records, record_size}
 use Rattle.rules.specs.declared.Registers.{Registers}
-use Rattle.rules.specs.declared.Code.{Code}
 use Rattle.rules.specs.declared.Outcome.{Outcome}
-use Rattle.rules.specs.declared.Outcome.TheVariants.{NoCall, BadMachine}
-use Rattle.rules.specs.Answers.{Answered, refuse}
-use Rattle.rules.specs.Machine.{Machine}
-use Rattle.rules.specs.Call.{Posed, bad_machine, no_call, handle, finish, call}
-use Rattle.rules.specs.Flat.{Buffers, parted, well_sized, call_bytes}
+use Rattle.rules.specs.declared.Outcome.TheVariants.{BadMachine}
+use Rattle.rules.specs.Answers.{refuse}
+use Rattle.rules.specs.Machine.{N, machine_of}
+use Rattle.rules.specs.Call.{bad_machine, bad_sheet, call}
+use Rattle.rules.specs.Flat.{Buffers, buffers, parts, parted, memory_fits, well_sized, call_bytes}
 use Rattle.laws.specs.Tested.{Tested}
-use Rattle.laws.proofs.FlatLaunch.{joined_parted}
+use Rattle.laws.proofs.FlatLaunch.{joined_parted, well_sized_by}
+
+-- what the tests have shown, once they are passed
+module _ (memory table sheet : List ℕ) (fits : memory_fits (length table) (length memory) ≡ true) (whole : length sheet ≡ 512) where
+  pub sized : well_sized (buffers memory table sheet) ≡ true
+  unfolding records record_size
+  sized = well_sized_by (buffers memory table sheet) fits (omega arith)
+
+  pub tested : (caller : ℕ) → bad_sheet (length table) caller (parts record_size sheet) ≡ false → Tested (buffers memory table sheet) caller
+  unfolding bad_machine N parted
+  tested caller shape = record { sized = sized; shape = shape }
 
 module _ (caller : ℕ) (g : Registers) (b : Buffers) where
   pub call_unsized : well_sized b ≡ false
@@ -25,16 +38,8 @@ module _ (caller : ℕ) (g : Registers) (b : Buffers) where
     unfolding call_bytes call refuse
     call_bad e = rw (sized, e, joined_parted b sized)
 
-  module _ (t : Tested b caller) where
-    pub call_none : no_call caller g (parted b) ≡ true
-        → call_bytes caller (record { registers = g; machine = b }) ≡ record { answer = NoCall; after = record { registers = g; machine = b } }
-    unfolding call_bytes call refuse
-    call_none e = rw (t.sized, t.shape, e, joined_parted b t.sized)
-
-    pub call_ended : no_call caller g (parted b) ≡ false
-        → (a : Answered Code (Posed Registers Machine)) → handle caller (record { registers = g; machine = record { lent = parted b } }) ≡ a
-        → (o : Outcome) (r : Registers) (after : Buffers) → well_sized after ≡ well_sized b
-        → finish caller g a ≡ record { answer = o; after = record { registers = r; machine = record { lent = parted after } } }
+    pub came_back : (after : Buffers) (r : Registers) (o : Outcome) → well_sized after ≡ true
+        → call caller (record { registers = g; machine = machine_of (parted b) }) ≡ record { answer = o; after = record { registers = r; machine = machine_of (parted after) } }
         → call_bytes caller (record { registers = g; machine = b }) ≡ record { answer = o; after = record { registers = r; machine = after } }
-    unfolding call_bytes call refuse
-    call_ended e a handled o r after same ended = rw (t.sized, t.shape, e, handled, ended, joined_parted after (same ∙ t.sized))
+    unfolding call_bytes refuse
+    came_back after r o same e = rw (sized, e, joined_parted after same)

@@ -2,103 +2,60 @@
 ghost use Rattle.std.specs.Prelude.{◌≡◌};
 ghost use Rattle.rules.specs.Answers.{Answered};
 ghost use Rattle.rules.specs.Call;
-ghost use Rattle.rules.specs.Machine.{machine_of};
-ghost use Rattle.rules.specs.Flat.{buffers, parted};
 ghost use Rattle.laws.specs.Tested.{Tested};
+ghost use Rattle.machine.specs.Held.{bytes_of, lent_of, SameBuffers};
+ghost use Rattle.call.specs.Asked.{posed};
 
-use query_calls::Told;
-use rules::{Code, ListCall, Registers};
+use machine::held::Machine;
+use rules::{Code, ListCall, Progress, Refusal, Registers};
 
-// The call that bits 31:0 of RAX name, and RCX after it.
-pub fn dispatch(
-    memory: &mut [u8],
-    table: &mut [u8],
-    sheet: &mut [u8],
-    g: Registers,
-    caller: usize,
-) -> Told
-    requires { Tested (buffers memory.old table.old sheet.old) caller }
-    ensures { Rattle.rules.specs.Call.dispatch caller
-        (record {
-          registers = g;
-          machine = machine_of (parted (buffers memory.old table.old sheet.old));
-        })
-        ≡ record {
-          answer = result.code;
-          after = record {
-            registers = Rattle.rules.specs.Call.with_rcx result.rcx g;
-            machine = machine_of (parted (buffers memory.new table.new sheet.new));
-          };
-        } }
+// The call that bits 31:0 of RAX name.
+#[tactic(auto, using(crate::proofs::Chosen::named), unfolding(rules::specs::Call::dispatch, rules::specs::Call::on_lent, rules::specs::Call::on_rcx, rules::specs::Call::with_rcx, rules::specs::Machine::with_lent))]
+pub fn dispatch(machine: &mut Machine, g: &mut Registers, caller: usize) -> Code
+    requires { Tested (bytes_of machine.old) caller }
+    ensures same { SameBuffers machine.old machine.new }
+    ensures done { Rattle.rules.specs.Call.dispatch caller (posed g.old machine.old)
+        ≡ record { answer = result; after = posed g.new machine.new } }
 {
     let rcx = g.rcx;
-    let number = (g.rax % 4294967296) as u32;
-    let code = match number {
-        0 => remap_call::remap(memory, table, sheet, caller, rcx),
-        1 => list_calls::list_call(memory, table, sheet, ListCall::Pvalidate, caller, rcx),
-        2 => create_call::create(memory, table, sheet, caller, rcx, g.rdx, g.r8),
-        3 => delete_call::delete(memory, table, sheet, caller, rcx),
-        4 => list_calls::list_call(memory, table, sheet, ListCall::Deposit, caller, rcx),
-        5 => withdraw_call::withdraw(memory, table, sheet, caller, rcx),
+    match (g.rax % 0x100000000) as u32 {
+        0 => remap_call::remap(machine, caller, rcx),
+        1 => list_calls::list_call(machine, ListCall::Pvalidate, caller, rcx),
+        2 => create_call::create(machine, caller, rcx, g.rdx, g.r8),
+        3 => delete_call::delete(machine, caller, rcx),
+        4 => list_calls::list_call(machine, ListCall::Deposit, caller, rcx),
+        5 => withdraw_call::withdraw(machine, caller, rcx),
         6 => {
-            return Told {
-                code: Code::Success,
-                rcx: query_calls::queried(rcx),
-            };
+            g.rcx = query_calls::queried(rcx);
+            Ok(Progress::Success)
         }
-        7 => {
-            return query_calls::answered(rcx);
-        }
-        8..=4294967295 => Code::UnknownCall,
-    };
-    Told { code, rcx }
+        7 => query_calls::vtom(&mut g.rcx),
+        8.. => Err(Refusal::UnknownCall),
+    }
 }
 
 // The byte that says that a call is made.
-pub fn pending(memory: &[u8], table: &[u8], sheet: &[u8], caller: usize) -> u8
-    requires { Tested (buffers memory.now table.now sheet.now) caller }
-    ensures { result
-        ≡ Rattle.rules.specs.Call.pending caller
-        (parted (buffers memory.now table.now sheet.now)) }
+#[tactic(auto, using(laws::proofs::Tested::caller_below, laws::proofs::Tested::caller_names), unfolding(rules::specs::Call::pending, rules::specs::Words::page_size, rules::specs::Machine::vcpu, rules::specs::Machine::record_at))]
+pub fn pending(machine: &Machine, caller: usize) -> u8
+    requires { Tested (bytes_of machine.now) caller }
+    ensures { result ≡ Rattle.rules.specs.Call.pending caller (lent_of machine.now) }
 {
-    let page = parts::number4(sheet, sheet::RECORD_SIZE, caller, sheet::CALLING) as usize;
-    parts::byte(memory, pages::PAGE_SIZE, page, 0)
+    machine.byte(machine.vcpu(caller).calling as usize, 0)
 }
 
 // First the pending byte, then the protocol, then the call.
-#[tactic(auto, unfolding(rules::specs::Call::handle, rules::specs::Answers::refuse, rules::specs::Call::with_rcx))]
-pub fn handle(
-    memory: &mut [u8],
-    table: &mut [u8],
-    sheet: &mut [u8],
-    g: Registers,
-    caller: usize,
-) -> Told
-    requires { Tested (buffers memory.old table.old sheet.old) caller }
-    ensures { Rattle.rules.specs.Call.handle caller
-        (record {
-          registers = g;
-          machine = machine_of (parted (buffers memory.old table.old sheet.old));
-        })
-        ≡ record {
-          answer = result.code;
-          after = record {
-            registers = Rattle.rules.specs.Call.with_rcx result.rcx g;
-            machine = machine_of (parted (buffers memory.new table.new sheet.new));
-          };
-        } }
+#[tactic(auto, using(crate::proofs::Chosen::protocol_is), unfolding(rules::specs::Call::handle, rules::specs::Answers::refuse))]
+pub fn handle(machine: &mut Machine, g: &mut Registers, caller: usize) -> Code
+    requires { Tested (bytes_of machine.old) caller }
+    ensures same { SameBuffers machine.old machine.new }
+    ensures done { Rattle.rules.specs.Call.handle caller (posed g.old machine.old)
+        ≡ record { answer = result; after = posed g.new machine.new } }
 {
-    if pending(memory, table, sheet, caller) >= 2 {
-        return Told {
-            code: Code::BadPending,
-            rcx: g.rcx,
-        };
+    if pending(machine, caller) >= 2 {
+        return Err(Refusal::BadPending);
     }
-    if g.rax / 4294967296 != 0 {
-        return Told {
-            code: Code::UnknownProtocol,
-            rcx: g.rcx,
-        };
+    if g.rax / 0x100000000 != 0 {
+        return Err(Refusal::UnknownProtocol);
     }
-    dispatch(memory, table, sheet, g, caller)
+    dispatch(machine, g, caller)
 }

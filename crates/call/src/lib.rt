@@ -1,38 +1,34 @@
-// A call, whole: the outcomes in their order, which call is made, and the last writes. `call` is public: it has no `requires`, and its promise
-// is one equation with the definition on flat bytes, over all that was lent. Nothing is assumed.
+// A call, whole: the outcomes in their order, which call is made, and the last writes. `call` and `call_in_place` are public: neither has a `requires`, and each
+// promise is one equation with the definition on flat bytes, over all that was lent. Nothing is assumed.
 #![tactic(auto)]
 
 pub mod handled;
 pub mod last;
 
-ghost use Rattle.std.specs.Prelude.{◌≡◌};
+ghost use Rattle.std.specs.Prelude.{◌≡◌, ◌<◌};
+ghost use Rattle.rules.specs.Words.{records};
 ghost use Rattle.rules.specs.Answers.{Answered, code_number};
 ghost use Rattle.rules.specs.Call;
-ghost use Rattle.rules.specs.Machine.{machine_of};
-ghost use Rattle.rules.specs.Flat.{buffers, parted};
+ghost use Rattle.rules.specs.Call.{Posed};
+ghost use Rattle.rules.specs.Flat.{buffers};
 ghost use Rattle.rules.specs.Promises.{CallPromise};
-ghost use Rattle.sheet.specs.Row.{Row};
+ghost use Rattle.laws.specs.Tested.{Tested};
+ghost use Rattle.machine.specs.Held.{bytes_of, SameBuffers};
+ghost use Rattle.call.specs.Asked.{posed};
 
-use query_calls::Told;
+use machine::held::Machine;
 use rules::{Code, Outcome, Registers};
+use sheet::SHEET_SIZE;
+use sheet::record::vcpu;
 
 // The paper's number for a code.
+#[tactic(auto, unfolding(rules::specs::Answers::code_number))]
 pub fn number_of(code: Code) -> u64
     ensures { result ≡ code_number code }
 {
     match code {
-        Code::Success => 0,
-        Code::OneMorePage => 0x40000001,
-        Code::Incomplete => 0x80000000,
-        Code::UnknownProtocol => 0x80000001,
-        Code::UnknownCall => 0x80000002,
-        Code::Address => 0x80000003,
-        Code::BadPending => 0x80000004,
-        Code::Parameter => 0x80000005,
-        Code::Request => 0x80000006,
-        Code::InUse => 0x80001003,
-        Code::SizeMismatch => 0x80001006,
-        Code::NoChange => 0x80001010,
+        Ok(progress) => progress as u64,
+        Err(refusal) => refusal as u64,
     }
 }
 
@@ -43,62 +39,86 @@ pub struct Called {
     pub registers: Registers,
 }
 
-// Gone where the caller's record is live no more, else handled.
+// Gone where the caller's record is live no more: it finds its registers as they were before. Else handled.
+#[tactic(auto, unfolding(rules::specs::Call::finish, rules::specs::Machine::is_live, rules::specs::Machine::record_at, rules::specs::Machine::with_lent, rules::specs::Call::with_rax, rules::specs::Flat::parted))]
 fn finish(
-    memory: &mut [u8],
-    table: &[u8],
-    sheet: &[u8],
-    g: Registers,
-    told: Told,
+    machine: &mut Machine,
+    g: &mut Registers,
+    before: Registers,
+    code: Code,
     caller: usize,
-) -> Called
-    requires { Row sheet.now caller }
-    ensures { Rattle.rules.specs.Call.finish caller g
-        (record {
-          answer = told.code;
-          after = record {
-            registers = Rattle.rules.specs.Call.with_rcx told.rcx g;
-            machine = machine_of (parted (buffers memory.old table.now sheet.now));
-          };
-        })
-        ≡ record {
-          answer = result.outcome;
-          after = record {
-            registers = result.registers;
-            machine = machine_of (parted (buffers memory.new table.now sheet.now));
-          };
-        } }
+) -> Outcome
+    requires { caller < records }
+    ensures same { SameBuffers machine.old machine.new }
+    ensures done { Rattle.rules.specs.Call.finish caller before (record { answer = code; after = posed g.old machine.old })
+        ≡ record { answer = result; after = posed g.new machine.new } }
 {
-    let live = parts::byte(sheet, sheet::RECORD_SIZE, caller, sheet::LIVE);
-    if live != 1 {
+    let memory = &mut *machine.memory;
+    let table = &mut *machine.table;
+    let sheet = &mut *machine.sheet;
+    if vcpu(sheet, caller).live != 1 {
         last::set_flag(memory, table, sheet);
-        return Called {
-            outcome: Outcome::Gone,
-            registers: g,
-        };
+        *g = before;
+        return Outcome::Gone;
     }
     last::clear_pending(memory, table, sheet, caller);
     last::set_flag(memory, table, sheet);
-    let code = told.code;
-    let registers = Registers {
-        rax: number_of(code),
-        rcx: told.rcx,
-        rdx: g.rdx,
-        r8: g.r8,
-        r9: g.r9,
-        reason: g.reason,
-    };
-    Called {
-        outcome: Outcome::Handled,
-        registers,
-    }
+    g.rax = number_of(code);
+    Outcome::Handled
 }
 
-// Outcomes that leave the registers.
-fn left(outcome: Outcome, registers: Registers) -> Called
-    ensures { result ≡ record { outcome = outcome; registers = registers } }
+// The outcomes, once the machine is known to be none of the bad ones.
+#[tactic(auto, using(laws::proofs::Tested::caller_below), unfolding(rules::specs::Call::call, rules::specs::Call::no_call, rules::specs::Call::bad_machine, rules::specs::Answers::refuse))]
+fn come_back(machine: &mut Machine, g: &mut Registers, caller: usize) -> Outcome
+    requires { Tested (bytes_of machine.old) caller }
+    ensures same { SameBuffers machine.old machine.new }
+    ensures done { Rattle.rules.specs.Call.call caller (posed g.old machine.old)
+        ≡ record { answer = result; after = posed g.new machine.new } }
 {
-    Called { outcome, registers }
+    if handled::pending(machine, caller) == 0 || g.reason != 0x403 {
+        return Outcome::NoCall;
+    }
+    let before = *g;
+    let code = handled::handle(machine, g, caller);
+    finish(machine, g, before, code, caller)
+}
+
+// A call by a vCPU, which lends its registers and finds them changed.
+pub fn call_in_place(
+    memory: &mut [u8],
+    table: &mut [u8],
+    sheet: &mut [u8],
+    registers: &mut Registers,
+    caller: usize,
+) -> Outcome
+    ensures { CallPromise caller
+        (record {
+          registers = registers.old;
+          machine = buffers memory.old table.old sheet.old;
+        })
+        (record {
+          answer = result;
+          after = record {
+            registers = registers.new;
+            machine = buffers memory.new table.new sheet.new;
+          };
+        }) }
+{
+    if !pages::memory::fits(table.len(), memory.len()) {
+        return Outcome::BadMachine;
+    }
+    let Some(sheet) = sheet.as_mut_array::<SHEET_SIZE>() else {
+        return Outcome::BadMachine;
+    };
+    if sheet::shape::bad_sheet(sheet, table.len(), caller) {
+        return Outcome::BadMachine;
+    }
+    let mut machine = Machine {
+        memory,
+        table,
+        sheet,
+    };
+    come_back(&mut machine, registers, caller)
 }
 
 // A call by a vCPU, with its registers.
@@ -119,22 +139,7 @@ pub fn call(
           };
         }) }
 {
-    let fits = pages::memory::fits(table.len(), memory.len());
-    if !fits {
-        return left(Outcome::BadMachine, g);
-    }
-    if sheet.len() != sheet::SHEET_SIZE {
-        return left(Outcome::BadMachine, g);
-    }
-    if sheet::shape::bad_sheet(sheet, table.len(), caller) {
-        return left(Outcome::BadMachine, g);
-    }
-    if handled::pending(memory, table, sheet, caller) == 0 {
-        return left(Outcome::NoCall, g);
-    }
-    if g.reason != 0x403 {
-        return left(Outcome::NoCall, g);
-    }
-    let told = handled::handle(memory, table, sheet, g, caller);
-    finish(memory, table, sheet, g, told, caller)
+    let mut registers = g;
+    let outcome = call_in_place(memory, table, sheet, &mut registers, caller);
+    Called { outcome, registers }
 }

@@ -1,2 +1,2 @@
-pub mod Made
-pub mod Ordered
+pub mod Marked
+pub mod Pages

@@ -1,1 +1,1 @@
-pub mod Fit
+pub mod Wanted

@@ -1,225 +1,185 @@
 // The call Create: its checks in order, and what it makes. Nothing is assumed.
 #![tactic(auto)]
 
-ghost use Rattle.std.specs.Prelude.{◌≡◌, true, cond, not, ◌&&◌, [], ◌*◌, ◌<◌, length, get_or, set};
-ghost use Rattle.rules.specs.Words.{record_size, records, exists, lowest};
-ghost use Rattle.rules.specs.Answers.{Answered};
-ghost use Rattle.rules.specs.Machine.{own, pool_in_use, is_live, needs_page};
-ghost use Rattle.rules.specs.Calls.{Asked, unfit_page, unfit_pages, unfit_vcpu, is_free, created, create};
-ghost use Rattle.rules.specs.Flat.{buffers, parts, parted};
-ghost use Rattle.laws.specs.Alone.{table_alone};
+ghost use Rattle.std.specs.Prelude.{◌≡◌, ℕ, cond, not, ◌&&◌, ◌||◌, ◌<◌, leb, eqb, IfSome, IfOk, length};
+ghost use Rattle.rules.specs.Words.{records, record_size};
+ghost use Rattle.rules.specs.Machine.{laid_out, is_live, needs_page};
+ghost use Rattle.rules.specs.Calls.{unfit_page, unfit_vcpu, free_record, any_free, new_record, created, create};
+ghost use Rattle.rules.specs.Flat.{parts};
 ghost use Rattle.laws.specs.Marks.{marks};
 ghost use Rattle.laws.specs.Tested.{Tested};
-ghost use Rattle.create_call.specs.Fit.{Asking, Named, Fit};
+ghost use Rattle.machine.specs.Held.{bytes_of, lent_of, SameBuffers};
+ghost use Rattle.create_call.specs.Wanted.{asked_of, pool_of, Fit};
 
-use pages::PAGE_SIZE_U64;
-use rules::{Code, Vcpu};
+use machine::held::Machine;
+use pages::byte::{self, Owner};
+use pages::gpa::Gpa;
+use pages::vmsa;
+use rules::{Code, Progress, Refusal, Vcpu};
+use sheet::live::{self, Named};
+use sheet::{RECORDS, RECORDS_WITHOUT_POOL, Sheet};
 
-// A page that is not usable for a caller of this VMPL, or not plain.
-fn unfit_page(table: &[u8], vmpl: u8, page: u64) -> bool
-    ensures { result ≡ unfit_page vmpl (table_alone table.now) page }
-{
-    let usable = pages::usable::is_usable(table, vmpl, page);
-    if !usable {
-        return true;
-    }
-    pages::byte::owner_of(table[page as usize]) != 0
+// What is asked for, in pages that were found fit.
+#[derive(Clone, Copy)]
+struct Asked {
+    caller_vmpl: u8,
+    vmsa: usize,
+    calling: usize,
+    apic: u32,
 }
 
-// Either page unfit, or both the same.
-fn unfit_pages(table: &[u8], vmpl: u8, vmsa: u64, calling: u64) -> bool
-    ensures { result ≡ unfit_pages (record { caller_vmpl = vmpl; vmsa = vmsa; calling = calling; apic = 0 })
-        (table_alone table.now) }
+// The page itself, if it is usable for a caller of this VMPL, and plain.
+#[tactic(auto, using(crate::proofs::Pages::page_below), unfolding(rules::specs::Calls::unfit_page, rules::specs::Machine::owned_by, rules::specs::Machine::table_byte, rules::specs::Flat::parted))]
+fn fit_page(machine: &Machine, vmpl: u8, page: u64) -> Option<usize>
+    ensures page { result ≡ cond (unfit_page vmpl (lent_of machine.now) page) None (Some page) }
+    ensures below { IfSome result (λ p. p < length machine.now.table.now) }
 {
-    if unfit_page(table, vmpl, vmsa) {
-        return true;
+    let page = machine.usable(vmpl, page)?;
+    byte::is_owned(Owner::Plain, machine.table[page]).then_some(page)
+}
+
+// Both pages, if each is fit and they are not the same.
+fn fit_pages(
+    machine: &Machine,
+    vmpl: u8,
+    vmsa: u64,
+    calling: u64,
+) -> Result<(usize, usize), Refusal>
+    ensures pages { let unfit = unfit_page vmpl (lent_of machine.now) in
+        result ≡ cond (unfit vmsa || unfit calling || eqb vmsa calling) (Err Refusal.Address) (Ok (vmsa, calling)) }
+    ensures below { let n = length machine.now.table.now in IfOk result (λ p. (p.0 < n) × (p.1 < n)) }
+{
+    let vmsa = fit_page(machine, vmpl, vmsa).ok_or(Refusal::Address)?;
+    let calling = fit_page(machine, vmpl, calling).ok_or(Refusal::Address)?;
+    if vmsa == calling {
+        return Err(Refusal::Address);
     }
-    if unfit_page(table, vmpl, calling) {
-        return true;
+    Ok((vmsa, calling))
+}
+
+// Refused: VMPL or EFER in the VMSA page unfit, VMPL below the caller's, features unlike record 0's, the APIC ID of a live record.
+#[tactic(auto, using(machine::proofs::Placed::pages_held, sheet::proofs::Places::some_place), unfolding(rules::specs::Calls::unfit_vcpu, rules::specs::Machine::page_at, rules::specs::Machine::startup, sheet::specs::Named::live_named, rules::specs::Flat::parted, rules::specs::Words::records))]
+fn check_vcpu(machine: &Machine, asked: Asked) -> Result<(), Refusal>
+    requires { asked.vmsa < length machine.now.table.now }
+    ensures { result ≡ cond (unfit_vcpu (asked_of asked) (lent_of machine.now)) (Err Refusal.Parameter) (Ok tt) }
+{
+    if vmsa::is_unfit(machine.memory, asked.vmsa)
+        || vmsa::vmpl_of(machine.memory, asked.vmsa) < asked.caller_vmpl
+        || vmsa::features_of(machine.memory, asked.vmsa) != machine.vcpu(0).features
+        || live::lowest(machine.sheet, Named::Apic(asked.apic)).is_some()
+    {
+        return Err(Refusal::Parameter);
     }
-    vmsa == calling
+    Ok(())
 }
 
 // The live marks as one number: bit i is set where record i is live.
-fn live_marks(sheet: &[u8]) -> u64
-    requires { length sheet.now ≡ record_size * records }
-    ensures { result ≡ marks is_live (parts record_size sheet.now) }
+#[tactic(auto, using(crate::proofs::Marked::one_more, crate::proofs::Marked::all_marked, sheet::proofs::At::rows_of), unfolding(rules::specs::Machine::is_live, rules::specs::Machine::fields, rules::specs::Words::records, rules::specs::Words::record_size, laws::specs::Marks::marks))]
+fn live_marks(sheet: &Sheet) -> u64
+    ensures marks { result ≡ marks is_live (parts record_size sheet.now) }
+    ensures sized { length (parts record_size sheet.now) ≡ records }
 {
     let mut marks = 0;
-    let mut i = 0;
-    while i < sheet::RECORDS {
-        let live = parts::byte(sheet, sheet::RECORD_SIZE, i, sheet::LIVE);
-        if live == 1 {
-            marks |= 1 << i;
-        }
-        i += 1;
+    for i in 0..RECORDS {
+        let live = sheet::record::vcpu(sheet, i).live == 1;
+        marks |= u64::from(live) << i;
     }
     marks
 }
 
-// The lowest record that is not live; the number of records if all are. The live marks inverted are the free marks.
-fn free_record(sheet: &[u8]) -> usize
-    requires { length sheet.now ≡ record_size * records }
-    ensures { result ≡ lowest (λ x. not (is_live x)) (parts record_size sheet.now) }
+// The lowest record that is not live. The live marks inverted are the free marks.
+#[tactic(auto, using(crate::proofs::Marked::counted, std::proofs::lemmas::Bool::Decides::nat_tests), unfolding(rules::specs::Calls::free_record, rules::specs::Flat::parted, rules::specs::Words::records))]
+fn free_record(machine: &Machine) -> Option<usize>
+    ensures lowest { let m = lent_of machine.now in
+        result ≡ cond (leb (length m.sheet) (free_record m)) None (Some (free_record m)) }
+    ensures below { IfSome result (λ i. i < records) }
 {
-    let free_marks = !live_marks(sheet);
-    u64::trailing_zeros(free_marks) as usize
+    let free_marks = !live_marks(machine.sheet);
+    let i = free_marks.trailing_zeros() as usize;
+    (i < RECORDS).then_some(i)
 }
 
-// VMPL or EFER in the VMSA page unfit, VMPL below the caller's, features unlike record 0's, or the APIC ID of a live record.
-fn unfit_vcpu(memory: &[u8], sheet: &[u8], caller_vmpl: u8, vmsa: usize, apic: u32) -> bool
-    requires { Asking memory.now sheet.now vmsa }
-    ensures { result ≡ unfit_vcpu (record { caller_vmpl = caller_vmpl; vmsa = vmsa; calling = 0; apic = apic })
-        (parted (buffers memory.now [] sheet.now)) }
+// The pool page of record i, if it needs one. The first records need none. Whether any page is free is asked first, of many bytes at once: so a table with none
+// is not walked page by page.
+#[tactic(auto, using(pages::proofs::Free::placed), unfolding(rules::specs::Machine::needs_page, rules::specs::Words::records_without_pool, rules::specs::Calls::any_free, rules::specs::Calls::free_page, rules::specs::Flat::parted))]
+fn pool_page(machine: &Machine, i: usize) -> Result<Option<usize>, Refusal>
+    ensures page { let m = lent_of machine.now in
+        result ≡ cond (needs_page i && not (any_free m)) (Err Refusal.OneMorePage) (Ok (pool_of i m)) }
+    ensures below { IfOk result (λ pool. IfSome pool (λ p. p < length machine.now.table.now)) }
 {
-    if pages::vmsa::is_unfit(memory, vmsa) {
-        return true;
+    if i < RECORDS_WITHOUT_POOL {
+        return Ok(None);
     }
-    let vmpl = pages::vmsa::vmpl_of(memory, vmsa);
-    if vmpl < caller_vmpl {
-        return true;
+    if !pages::pool::any_free(machine.table) {
+        return Err(Refusal::OneMorePage);
     }
-    let features = pages::vmsa::features_of(memory, vmsa);
-    let startup_features = parts::number8(sheet, sheet::RECORD_SIZE, 0, sheet::FEATURES);
-    if features != startup_features {
-        return true;
+    Ok(pages::pool::lowest_free(machine.table))
+}
+
+// The new record, not running.
+#[tactic(auto, using(machine::proofs::Placed::pages_held, crate::proofs::Pages::most), unfolding(rules::specs::Calls::new_record, rules::specs::Calls::free_page, rules::specs::Machine::page_at, rules::specs::Flat::parted, rules::specs::Words::most_pages))]
+fn new_record(machine: &Machine, asked: Asked, pool: Option<usize>) -> Vcpu
+    requires { Fit machine.now asked pool }
+    ensures { let m = lent_of machine.now in
+        (i : ℕ) → pool ≡ pool_of i m → laid_out result ≡ new_record (asked_of asked) i m }
+{
+    Vcpu {
+        live: 1,
+        vmpl: vmsa::vmpl_of(machine.memory, asked.vmsa),
+        holding: u8::from(pool.is_some()),
+        apic: asked.apic,
+        vmsa: asked.vmsa as u32,
+        calling: asked.calling as u32,
+        pool: pool.unwrap_or(0) as u32,
+        ..Vcpu::default()
     }
-    sheet::live::lowest(sheet, sheet::APIC_ID, apic as u64) < sheet::RECORDS
-}
-
-// The first records need no pool page.
-fn needs_page(i: usize) -> bool
-    ensures { result ≡ needs_page i }
-{
-    i >= sheet::RECORDS_WITHOUT_POOL
-}
-
-// Record i needs a pool page, and none is free.
-fn lacks_page(table: &[u8], i: usize) -> bool
-    ensures { result ≡ (needs_page i && not (exists is_free table.now)) }
-{
-    let needed = needs_page(i);
-    if !needed {
-        return false;
-    }
-    let free = pages::pool::any_free(table);
-    !free
-}
-
-// The pool page of record i; 0 if it needs none.
-fn pool_page(table: &[u8], i: usize) -> usize
-    ensures { result ≡ cond (needs_page i) (lowest is_free table.now) 0 }
-{
-    let needed = needs_page(i);
-    if !needed {
-        return 0;
-    }
-    pages::pool::lowest_free(table)
-}
-
-fn holding_of(i: usize) -> u8
-    ensures { result ≡ cond (needs_page i) 1 0 }
-{
-    if needs_page(i) { 1 } else { 0 }
-}
-
-// The pool page of record i, if it needs one, is in use.
-fn mark_pool(table: &mut [u8], i: usize, pool: usize)
-    requires { needs_page i ≡ true → pool < length table.old }
-    ensures { table.new
-        ≡ cond (needs_page i) (set table.old pool (own pool_in_use (get_or table.old pool 0))) table.old }
-{
-    if needs_page(i) {
-        table[pool] = pages::byte::owned(4, table[pool]);
-    }
-}
-
-// The table's changes, in their order: VMSA page, calling page, pool page.
-fn mark_pages(table: &mut [u8], i: usize, vmsa: usize, calling: usize, pool: usize)
-    requires { Named table.old i vmsa calling pool }
-    ensures { table.new
-        ≡ (created (record { caller_vmpl = 0; vmsa = vmsa; calling = calling; apic = 0 }) i
-        (table_alone table.old)).table }
-{
-    let b = table[vmsa];
-    let revoked = pages::byte::revoked(b);
-    table[vmsa] = pages::byte::owned(5, revoked);
-    table[calling] = pages::byte::owned(1, table[calling]);
-    mark_pool(table, i, pool);
 }
 
 // What Create makes, once its checks are passed: the table's changes and record i.
-fn make(
-    memory: &[u8],
-    table: &mut [u8],
-    sheet: &mut [u8],
-    i: usize,
-    vmsa: usize,
-    calling: usize,
-    apic: u32,
-)
-    requires { Fit (buffers memory.now table.old sheet.old) i vmsa calling }
-    ensures { parted (buffers memory.now table.new sheet.new)
-        ≡ created (record { caller_vmpl = 0; vmsa = vmsa; calling = calling; apic = apic }) i
-        (parted (buffers memory.now table.old sheet.old)) }
+#[tactic(auto, using(laws::proofs::Change::change_twice), unfolding(rules::specs::Calls::created, rules::specs::Calls::free_page, rules::specs::Flat::parted))]
+fn make(machine: &mut Machine, i: usize, asked: Asked, pool: Option<usize>)
+    requires below { i < records }
+    requires fit { Fit machine.old asked pool }
+    requires pool { pool ≡ pool_of i (lent_of machine.old) }
+    ensures same { SameBuffers machine.old machine.new }
+    ensures done { lent_of machine.new ≡ created (asked_of asked) i (lent_of machine.old) }
 {
-    let pool = pool_page(table, i);
-    let v = Vcpu {
-        live: 1,
-        vmpl: pages::vmsa::vmpl_of(memory, vmsa),
-        running: 0,
-        holding: holding_of(i),
-        apic,
-        vmsa: vmsa as u32,
-        calling: calling as u32,
-        pool: pool as u32,
-        spare: 0,
-        features: 0,
-    };
-    mark_pages(table, i, vmsa, calling, pool);
-    sheet::record::put_record(sheet, i, v);
+    let v = new_record(machine, asked, pool);
+    machine.revoke(asked.vmsa);
+    machine.set_owner(asked.vmsa, Owner::VmsaArea);
+    machine.set_owner(asked.calling, Owner::CallingArea);
+    if let Some(page) = pool {
+        machine.set_owner(page, Owner::PoolInUse);
+    }
+    machine.put_vcpu(i, v);
 }
 
 // 2 Create.
-pub fn create(
-    memory: &[u8],
-    table: &mut [u8],
-    sheet: &mut [u8],
-    caller: usize,
-    rcx: u64,
-    rdx: u64,
-    r8: u64,
-) -> Code
-    requires { Tested (buffers memory.now table.old sheet.old) caller }
-    ensures { create caller rcx rdx r8 (parted (buffers memory.now table.old sheet.old))
+#[tactic(auto, unfolding(rules::specs::Calls::create, rules::specs::Answers::refuse, rules::specs::Calls::unfit_pages, rules::specs::Calls::asked, rules::specs::Machine::page_of, rules::specs::Words::bits, rules::specs::Words::page_size))]
+pub fn create(machine: &mut Machine, caller: usize, rcx: u64, rdx: u64, r8: u64) -> Code
+    requires { Tested (bytes_of machine.old) caller }
+    ensures same { SameBuffers machine.old machine.new }
+    ensures done { create caller rcx rdx r8 (lent_of machine.old)
         ≡ record {
           answer = result;
-          after = parted (buffers memory.now table.new sheet.new);
+          after = lent_of machine.new;
         } }
 {
-    if rcx % PAGE_SIZE_U64 != 0 {
-        return Code::Parameter;
+    let (vmsa, calling) = (Gpa(rcx), Gpa(rdx));
+    if !vmsa.is_page() || !calling.is_page() {
+        return Err(Refusal::Parameter);
     }
-    if rdx % PAGE_SIZE_U64 != 0 {
-        return Code::Parameter;
-    }
-    let vmpl = parts::byte(sheet, sheet::RECORD_SIZE, caller, sheet::VMPL);
-    if unfit_pages(table, vmpl, rcx / PAGE_SIZE_U64, rdx / PAGE_SIZE_U64) {
-        return Code::Address;
-    }
-    let vmsa = (rcx / PAGE_SIZE_U64) as usize;
-    let calling = (rdx / PAGE_SIZE_U64) as usize;
-    let apic = (r8 % 0x100000000) as u32;
-    if unfit_vcpu(memory, sheet, vmpl, vmsa, apic) {
-        return Code::Parameter;
-    }
-    let i = free_record(sheet);
-    if i >= sheet::RECORDS {
-        return Code::Request;
-    }
-    if lacks_page(table, i) {
-        return Code::OneMorePage;
-    }
-    make(memory, table, sheet, i, vmsa, calling, apic);
-    Code::Success
+    let caller_vmpl = machine.vcpu(caller).vmpl;
+    let (vmsa, calling) = fit_pages(machine, caller_vmpl, vmsa.page(), calling.page())?;
+    let asked = Asked {
+        caller_vmpl,
+        vmsa,
+        calling,
+        apic: (r8 % 0x1_0000_0000) as u32,
+    };
+    check_vcpu(machine, asked)?;
+    let i = free_record(machine).ok_or(Refusal::Request)?;
+    let pool = pool_page(machine, i)?;
+    make(machine, i, asked, pool);
+    Ok(Progress::Success)
 }

@@ -1,1 +1,3 @@
 pub mod Cleared
+pub mod Found
+pub mod Masks

@@ -1,137 +1,100 @@
 // The call Delete: the record that it means, its checks, and its effects in order. Nothing is assumed.
 #![tactic(auto)]
 
-ghost use Rattle.std.specs.Prelude.{◌≡◌, cond, not, ◌&&◌, [], ◌<◌, eqb, length, get_or, set};
-ghost use Rattle.rules.specs.Words.{page_size, record_size, little, without_bit};
-ghost use Rattle.rules.specs.Machine.{written, zeros, own, fields, holds, efer};
-ghost use Rattle.rules.specs.Calls;
-ghost use Rattle.rules.specs.Flat.{buffers, parts, parted};
-ghost use Rattle.laws.specs.Tested.{Tested};
-ghost use Rattle.sheet.specs.Row.{Row, row};
-ghost use Rattle.delete_call.specs.Live.{Pooled, Live};
+ghost use Rattle.std.specs.Prelude.{◌≡◌, ◌<◌, cond, eqb, length, Ok, Err, MatchResult, IfOk};
+ghost use Rattle.rules.specs.Words.{records};
+ghost use Rattle.rules.specs.Machine.{own, pool_free, change, record_at, vcpu};
+ghost use Rattle.rules.specs.Calls.{clear_svme, deleted, delete};
+ghost use Rattle.rules.specs.declared.Progress.TheVariants.{Success};
+ghost use Rattle.laws.specs.Tested.{Tested, Names};
+ghost use Rattle.machine.specs.Held.{bytes_of, lent_of, SameBuffers};
 
-use pages::{PAGE_SIZE, PAGE_SIZE_U64};
-use rules::{Code, Vcpu};
+use machine::held::Machine;
+use pages::byte::Owner;
+use pages::gpa::Gpa;
+use rules::{Code, Progress, Refusal, Vcpu};
+use sheet::live::{Named, lowest};
 
-// Another vCPU, and running.
-fn in_use(sheet: &[u8], i: usize, caller: usize) -> bool
-    requires { Row sheet.now i }
-    ensures { result ≡ (not (eqb i caller) && eqb (fields (row sheet.now i)).running 1) }
-{
-    if i == caller {
-        return false;
-    }
-    let running = parts::byte(sheet, sheet::RECORD_SIZE, i, sheet::RUNNING);
-    running == 1
-}
+// Where EFER stands in a VMSA page, and its bit 12.
+const EFER: usize = 0xD0;
 
-fn without_svme(efer: u64) -> u64
-    ensures { result ≡ without_bit 12 efer }
-{
-    if efer / 4096 % 2 != 1 {
-        return efer;
-    }
-    efer - 4096
-}
+const SVME: u64 = 0x1000;
 
 // EFER bit 12 of a VMSA page, cleared.
-fn clear_svme(memory: &mut [u8], page: usize)
-    requires { page < length (parts page_size memory.old) }
-    ensures { parts page_size memory.new
-        ≡ written page 0xD0 (little 8 (without_bit 12 (efer (get_or (parts page_size memory.old) page []))))
-        (parts page_size memory.old) }
+#[tactic(auto, using(crate::proofs::Masks::clear_bit_12), unfolding(rules::specs::Calls::clear_svme, rules::specs::Machine::efer, rules::specs::Words::page_size))]
+fn clear_svme(machine: &mut Machine, page: usize)
+    requires { page < length machine.old.table.now }
+    ensures same { SameBuffers machine.old machine.new }
+    ensures done { lent_of machine.new ≡ clear_svme page (lent_of machine.old) }
 {
-    let efer = pages::vmsa::efer_of(memory, page);
-    parts::put_number8(memory, PAGE_SIZE, page, 0xD0, without_svme(efer));
+    let efer: u64 = machine.number(page, EFER);
+    machine.write(page, EFER, efer & !SVME);
 }
 
 // The pool page that a record holds is free, if it holds one.
-fn free_pool(table: &mut [u8], sheet: &[u8], i: usize)
-    requires { Pooled table.old sheet.now i }
-    ensures { table.new
-        ≡ cond (holds (row sheet.now i))
-        (set table.old (fields (row sheet.now i)).pool
-        (own 3 (get_or table.old (fields (row sheet.now i)).pool 0)))
-        table.old }
+fn free_pool(machine: &mut Machine, v: Vcpu)
+    requires { v.holding ≡ 1 → v.pool < length machine.old.table.now }
+    ensures same { SameBuffers machine.old machine.new }
+    ensures done { lent_of machine.new
+        ≡ cond (eqb v.holding 1) (change (own pool_free) v.pool (lent_of machine.old)) (lent_of machine.old) }
 {
-    let holding = parts::byte(sheet, sheet::RECORD_SIZE, i, sheet::HOLDING);
-    if holding == 1 {
-        let page = parts::number4(sheet, sheet::RECORD_SIZE, i, sheet::POOL_PAGE) as usize;
-        table[page] = pages::byte::owned(3, table[page]);
+    if v.holding == 1 {
+        machine.set_owner(v.pool as usize, Owner::PoolFree);
     }
-}
-
-// A record of zeros.
-fn clear_record(sheet: &mut [u8], i: usize)
-    requires { Row sheet.old i }
-    ensures { parts record_size sheet.new ≡ set (parts record_size sheet.old) i (zeros record_size) }
-{
-    let none = Vcpu {
-        live: 0,
-        vmpl: 0,
-        running: 0,
-        holding: 0,
-        apic: 0,
-        vmsa: 0,
-        calling: 0,
-        pool: 0,
-        spare: 0,
-        features: 0,
-    };
-    sheet::record::put_record(sheet, i, none);
 }
 
 // What Delete does to the machine, for a caller of this VMPL, in the paper's order.
-fn deleted(memory: &mut [u8], table: &mut [u8], sheet: &mut [u8], vmpl: u8, i: usize)
-    requires { Live (buffers memory.old table.old sheet.old) i }
-    ensures { parted (buffers memory.new table.new sheet.new)
-        ≡ Rattle.rules.specs.Calls.deleted vmpl i
-        (parted (buffers memory.old table.old sheet.old)) }
+#[tactic(auto, unfolding(rules::specs::Machine::vcpu, rules::specs::Machine::holds))]
+fn deleted(machine: &mut Machine, vmpl: u8, i: usize)
+    requires { (i < records) × Names (length machine.old.table.now) (record_at (lent_of machine.old) i) }
+    ensures same { SameBuffers machine.old machine.new }
+    ensures done { lent_of machine.new ≡ deleted vmpl i (lent_of machine.old) }
 {
-    let vmsa = parts::number4(sheet, sheet::RECORD_SIZE, i, sheet::VMSA) as usize;
-    let calling = parts::number4(sheet, sheet::RECORD_SIZE, i, sheet::CALLING) as usize;
-    clear_svme(memory, vmsa);
-    let plain = pages::byte::owned(0, table[vmsa]);
-    table[vmsa] = pages::byte::granted(vmpl, plain);
-    table[calling] = pages::byte::owned(0, table[calling]);
-    free_pool(table, sheet, i);
-    clear_record(sheet, i);
+    let v = machine.vcpu(i);
+    let vmsa = v.vmsa as usize;
+    clear_svme(machine, vmsa);
+    machine.set_owner(vmsa, Owner::Plain);
+    machine.grant(vmsa, vmpl);
+    machine.set_owner(v.calling as usize, Owner::Plain);
+    free_pool(machine, v);
+    machine.put_vcpu(i, Vcpu::default());
+}
+
+// The record that is meant, if it may be deleted.
+#[tactic(auto, unfolding(rules::specs::Calls::delete, rules::specs::Answers::refuse, rules::specs::Calls::named_by, rules::specs::Machine::vcpu, rules::specs::Machine::record_at, rules::specs::Flat::parted, rules::specs::Words::records, rules::specs::Machine::page_of, rules::specs::Words::page_size, sheet::specs::Named::live_named))]
+fn meant(machine: &Machine, caller: usize, rcx: u64) -> Result<usize, Refusal>
+    requires { Tested (bytes_of machine.now) caller }
+    ensures found { IfOk result (λ i. (i < records) × Names (length machine.now.table.now) (record_at (lent_of machine.now) i)) }
+    ensures code { let m = lent_of machine.now in
+        MatchResult result
+        (λ i. delete caller rcx m ≡ record { answer = Ok Success; after = deleted (vcpu m caller).vmpl i m })
+        (λ why. delete caller rcx m ≡ record { answer = Err why; after = m }) }
+{
+    let gpa = Gpa(rcx);
+    if !gpa.is_page() {
+        return Err(Refusal::Parameter);
+    }
+    let i = lowest(machine.sheet, Named::Vmsa(gpa.page())).ok_or(Refusal::Parameter)?;
+    let vmpl = machine.vcpu(caller).vmpl;
+    let v = machine.vcpu(i);
+    if i == 0 || v.vmpl < vmpl {
+        return Err(Refusal::Parameter);
+    }
+    if i != caller && v.running == 1 {
+        return Err(Refusal::InUse);
+    }
+    Ok(i)
 }
 
 // 3 Delete.
-pub fn delete(
-    memory: &mut [u8],
-    table: &mut [u8],
-    sheet: &mut [u8],
-    caller: usize,
-    rcx: u64,
-) -> Code
-    requires { Tested (buffers memory.old table.old sheet.old) caller }
-    ensures { Rattle.rules.specs.Calls.delete caller rcx
-        (parted (buffers memory.old table.old sheet.old))
-        ≡ record {
-          answer = result;
-          after = parted (buffers memory.new table.new sheet.new);
-        } }
+pub fn delete(machine: &mut Machine, caller: usize, rcx: u64) -> Code
+    requires { Tested (bytes_of machine.old) caller }
+    ensures same { SameBuffers machine.old machine.new }
+    ensures done { delete caller rcx (lent_of machine.old)
+        ≡ record { answer = result; after = lent_of machine.new } }
 {
-    if rcx % PAGE_SIZE_U64 != 0 {
-        return Code::Parameter;
-    }
-    let i = sheet::live::lowest(sheet, sheet::VMSA, rcx / PAGE_SIZE_U64);
-    if i >= sheet::RECORDS {
-        return Code::Parameter;
-    }
-    if i == 0 {
-        return Code::Parameter;
-    }
-    let own_vmpl = parts::byte(sheet, sheet::RECORD_SIZE, caller, sheet::VMPL);
-    let vmpl = parts::byte(sheet, sheet::RECORD_SIZE, i, sheet::VMPL);
-    if vmpl < own_vmpl {
-        return Code::Parameter;
-    }
-    if in_use(sheet, i, caller) {
-        return Code::InUse;
-    }
-    deleted(memory, table, sheet, own_vmpl, i);
-    Code::Success
+    let i = meant(machine, caller, rcx)?;
+    let vmpl = machine.vcpu(caller).vmpl;
+    deleted(machine, vmpl, i);
+    Ok(Progress::Success)
 }

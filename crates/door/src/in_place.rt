@@ -1,5 +1,5 @@
-// The call for a caller in Rattle, who lends the registers as one record and finds it changed in place. The promise is the one of `call::call`, which
-// takes and returns the registers by value; here the record that was lent is what came back. There is no `requires`, and nothing is assumed.
+// The call for a caller in Rattle, who lends the registers as one record and finds it changed in place. The promise is the one of `call::call_in_place`, which it
+// is. There is no `requires`, and nothing is assumed.
 ghost use Rattle.rules.specs.Flat.{buffers};
 ghost use Rattle.rules.specs.Promises.{CallPromise};
 
@@ -25,7 +25,5 @@ pub fn call(
           };
         }) }
 {
-    let called = call::call(memory, table, sheet, *registers, caller);
-    *registers = called.registers;
-    called.outcome
+    call::call_in_place(memory, table, sheet, registers, caller)
 }

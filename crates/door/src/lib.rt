@@ -4,7 +4,7 @@
 
 pub mod in_place;
 
-ghost use Rattle.std.specs.Prelude.{◌≡◌, length};
+ghost use Rattle.std.specs.Prelude.{◌≡◌, ℕ, length};
 ghost use Rattle.rules.specs.Words.{registers_size};
 ghost use Rattle.rules.specs.Call.{Posed};
 ghost use Rattle.rules.specs.declared.Plan.{Plan};
@@ -14,31 +14,65 @@ ghost use Rattle.rules.specs.Discovery.{located_number};
 ghost use Rattle.rules.specs.Promises.{MonitorLaunchPromise, MonitorStorePromise, MonitorMarkPromise, MonitorCallPromise};
 ghost use Rattle.rules.specs.Promises.{MonitorAnnouncePromise, MonitorDiscoverPromise};
 
-use rules::{Launched, Located, Outcome, Plan, Registers, Verdict};
+use rules::{DiscoveryError, LaunchError, Outcome, Plan, Refused, Registers};
+use words::Little;
 
 pub const REGISTERS_SIZE: usize = 48;
 
-fn launched(answer: Launched) -> u32
-    ensures { result ≡ launched_number answer }
-{
-    match answer {
-        Launched::Made => 0,
-        Launched::WrongSize => 1,
-        Launched::OutOfRange => 2,
-        Launched::AreasMeet => 3,
-        Launched::UnfitVmsa => 4,
+// What a host is told by the paper's number.
+trait Numbered {
+    ghost number: { Self → ℕ };
+
+    fn number(self) -> u32
+        ensures { result ≡ number self };
+}
+
+#[tactic(auto, unfolding(rules::specs::Answers::outcome_number))]
+impl Numbered for Outcome {
+    ghost number = { outcome_number };
+
+    fn number(self) -> u32 {
+        self as u32
     }
 }
 
-fn verdict(answer: Verdict) -> u32
-    ensures { result ≡ verdict_number answer }
-{
-    match answer {
-        Verdict::Done => 0,
-        Verdict::Refused => 1,
+#[tactic(auto, unfolding(rules::specs::Answers::launched_number))]
+impl Numbered for Result<(), LaunchError> {
+    ghost number = { launched_number };
+
+    fn number(self) -> u32 {
+        match self {
+            Ok(()) => 0,
+            Err(unmade) => unmade as u32,
+        }
     }
 }
 
+#[tactic(auto, unfolding(rules::specs::Answers::verdict_number))]
+impl Numbered for Result<(), Refused> {
+    ghost number = { verdict_number };
+
+    fn number(self) -> u32 {
+        match self {
+            Ok(()) => 0,
+            Err(Refused) => 1,
+        }
+    }
+}
+
+#[tactic(auto, unfolding(rules::specs::Discovery::located_number))]
+impl Numbered for Result<(), DiscoveryError> {
+    ghost number = { located_number };
+
+    fn number(self) -> u32 {
+        match self {
+            Ok(()) => 0,
+            Err(untold) => untold as u32,
+        }
+    }
+}
+
+#[tactic(auto, unfolding(rules::specs::Promises::LaunchPromise, rules::specs::Promises::MonitorLaunchPromise, rules::specs::Answers::numbered))]
 pub fn monitor_launch(
     memory: &mut [u8],
     table: &mut [u8],
@@ -67,9 +101,10 @@ pub fn monitor_launch(
         apic: apic_id,
         valid: valid_below,
     };
-    launched(monitor::launch::launch(memory, table, sheet, n, plan))
+    monitor::launch::launch(memory, table, sheet, n, plan).number()
 }
 
+#[tactic(auto, unfolding(rules::specs::Promises::StorePromise, rules::specs::Promises::MonitorStorePromise, rules::specs::Answers::numbered))]
 pub fn monitor_store(
     memory: &mut [u8],
     table: &[u8],
@@ -81,39 +116,29 @@ pub fn monitor_store(
     ensures { MonitorStorePromise vmpl page offset bytes.now table.now memory.old
         (record { answer = result; after = memory.new }) }
 {
-    verdict(monitor::steps::store(memory, table, vmpl, page, offset, bytes))
+    monitor::steps::store(memory, table, vmpl, page, offset, bytes).number()
 }
 
+#[tactic(auto, unfolding(rules::specs::Promises::MarkPromise, rules::specs::Promises::MonitorMarkPromise, rules::specs::Answers::numbered))]
 pub fn monitor_mark(sheet: &mut [u8], number: usize, running: u8) -> u32
     ensures { MonitorMarkPromise number running sheet.old (record { answer = result; after = sheet.new }) }
 {
-    verdict(monitor::steps::mark(sheet, number, running))
-}
-
-fn outcome(answer: Outcome) -> u32
-    ensures { result ≡ outcome_number answer }
-{
-    match answer {
-        Outcome::Handled => 0,
-        Outcome::NoCall => 1,
-        Outcome::Gone => 2,
-        Outcome::BadMachine => 3,
-    }
+    monitor::steps::mark(sheet, number, running).number()
 }
 
 // RAX, RCX, RDX, R8, R9 and the exit reason, eight bytes each.
-#[tactic(auto, unfolding(rules::specs::Words::registers_size))]
+#[tactic(auto, unfolding(rules::specs::Flat::registers_of, rules::specs::Words::registers_size))]
 fn read_registers(bytes: &[u8]) -> Registers
     requires { length bytes.now ≡ registers_size }
     ensures { result ≡ registers_of bytes.now }
 {
     Registers {
-        rax: words::read8(bytes, 0),
-        rcx: words::read8(bytes, 8),
-        rdx: words::read8(bytes, 16),
-        r8: words::read8(bytes, 24),
-        r9: words::read8(bytes, 32),
-        reason: words::read8(bytes, 40),
+        rax: u64::read(bytes, 0),
+        rcx: u64::read(bytes, 8),
+        rdx: u64::read(bytes, 16),
+        r8: u64::read(bytes, 24),
+        r9: u64::read(bytes, 32),
+        reason: u64::read(bytes, 40),
     }
 }
 
@@ -122,14 +147,15 @@ fn write_registers(bytes: &mut [u8], g: Registers)
     requires { length bytes.old ≡ registers_size }
     ensures { bytes.new ≡ register_bytes g }
 {
-    words::write8(bytes, 0, g.rax);
-    words::write8(bytes, 8, g.rcx);
-    words::write8(bytes, 16, g.rdx);
-    words::write8(bytes, 24, g.r8);
-    words::write8(bytes, 32, g.r9);
-    words::write8(bytes, 40, g.reason);
+    g.rax.write(bytes, 0);
+    g.rcx.write(bytes, 8);
+    g.rdx.write(bytes, 16);
+    g.r8.write(bytes, 24);
+    g.r9.write(bytes, 32);
+    g.reason.write(bytes, 40);
 }
 
+#[tactic(auto, unfolding(rules::specs::Promises::CallPromise, rules::specs::Promises::MonitorCallPromise, rules::specs::Answers::numbered, rules::specs::Answers::refuse, rules::specs::Flat::door_bytes, rules::specs::Words::registers_size))]
 pub fn monitor_call(
     memory: &mut [u8],
     table: &mut [u8],
@@ -151,39 +177,24 @@ pub fn monitor_call(
         }) }
 {
     if registers.len() != REGISTERS_SIZE {
-        return outcome(Outcome::BadMachine);
+        return Outcome::BadMachine.number();
     }
-    let g = read_registers(registers);
-    let called = call::call(memory, table, sheet, g, caller);
-    let after = called.registers;
-    write_registers(registers, after);
-    let answer = called.outcome;
-    outcome(answer)
+    let mut g = read_registers(registers);
+    let outcome = call::call_in_place(memory, table, sheet, &mut g, caller);
+    write_registers(registers, g);
+    outcome.number()
 }
 
-fn located(answer: Located) -> u32
-    ensures { result ≡ located_number answer }
-{
-    match answer {
-        Located::Told => 0,
-        Located::UnalignedBase => 1,
-        Located::UnalignedSize => 2,
-        Located::UnalignedArea => 3,
-        Located::PastEnd => 4,
-        Located::AreaInside => 5,
-        Located::NoMonitor => 6,
-        Located::WrongLength => 7,
-    }
-}
-
+#[tactic(auto, unfolding(rules::specs::Promises::AnnouncePromise, rules::specs::Promises::MonitorAnnouncePromise, rules::specs::Answers::numbered))]
 pub fn monitor_announce(page: &mut [u8], base: u64, size: u64, area: u64, vmpl: u8) -> u32
     ensures { MonitorAnnouncePromise base size area vmpl page.old (record { answer = result; after = page.new }) }
 {
-    located(discovery::announce(page, base, size, area, vmpl))
+    discovery::announce(page, base, size, area, vmpl).number()
 }
 
+#[tactic(auto, unfolding(rules::specs::Promises::DiscoverPromise, rules::specs::Promises::MonitorDiscoverPromise, rules::specs::Answers::numbered))]
 pub fn monitor_discover(page: &[u8], fields: &mut [u8]) -> u32
     ensures { MonitorDiscoverPromise page.now fields.old (record { answer = result; after = fields.new }) }
 {
-    located(discovery::discover(page, fields))
+    discovery::discover(page, fields).number()
 }

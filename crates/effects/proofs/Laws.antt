@@ -2,7 +2,8 @@
 -- Assumes nothing.
 use mathlib.Core.Path.{◌≡◌, refl, sym, ◌∙◌, ap}
 use mathlib.Core.List.{List, [], ◌∷◌}
-use Prim.Native.Nat.{ℕ, suc, ◌+◌}
+use Prim.Native.Nat.{ℕ, suc, ◌+◌, ◌-◌, ◌≤◌}
+use native.Mathlib.Omega.{arith}
 use lib.ListN.{get_or, set}
 use Rattle.rules.specs.Words.{record_size, range, each}
 use Rattle.rules.specs.Machine.{Lent, with_memory, fill, put, table_byte}
@@ -45,13 +46,17 @@ module _ (wish : Wish) (vmpl first : ℕ) where
       sym (each_part (with_sheet rows) (carry_out wish vmpl) (carry_out wish vmpl) (carry_out_with rows wish vmpl) (range first count) (without_sheet memory table))
       ∙ ap (with_sheet rows) e
 
-  -- an entry of no page, and of one page more
-  pub carry_out_none : (m : Lent) → carry_out_all wish vmpl first 0 m ≡ m
-  unfolding carry_out_all range each
-  carry_out_none m = refl
+  module _ (m : Lent) where
+    -- no page
+    pub carry_out_none : carry_out_all wish vmpl first (first - first) m ≡ m
+    unfolding carry_out_all range each
+    carry_out_none = let none : first - first ≡ 0 = omega arith in rw none
 
-  pub carry_out_more : (i : ℕ) (m : Lent) → carry_out_all wish vmpl first (suc i) m ≡ carry_out wish vmpl (first + i) (carry_out_all wish vmpl first i m)
-  unfolding carry_out_all each
-  carry_out_more i m =
-      ap (λ ps. each (carry_out wish vmpl) ps m) (range_snoc first i)
-      ∙ each_append (carry_out wish vmpl) (range first i) ((first + i) ∷ []) m
+    -- page p after those before it
+    pub carry_out_more : (p : ℕ) → first ≤ p → carry_out_all wish vmpl first (p + 1 - first) m ≡ carry_out wish vmpl p (carry_out_all wish vmpl first (p - first) m)
+    unfolding carry_out_all each
+    carry_out_more p h =
+        let one : p + 1 - first ≡ suc (p - first) = omega arith in
+        let last : first + (p - first) ≡ p = omega arith in
+        rw one (ap (λ ps. each (carry_out wish vmpl) ps m) (range_snoc first (p - first))
+        ∙ rw last (each_append (carry_out wish vmpl) (range first (p - first)) (p ∷ []) m))

@@ -1,2 +1,4 @@
 pub mod Coverable
+pub mod Ranges
 pub mod Reading
+pub mod Whole

@@ -7,19 +7,10 @@ ghost use Rattle.rules.specs.Flat.{buffers};
 ghost use Rattle.rules.specs.Promises.{CallPromise};
 
 use call::Called;
-use rules::{Launched, Outcome, Plan, Registers};
-use std::io::{self, Print, Stdout};
+use rules::{Outcome, Plan, Registers};
+use std::io;
 
 const QUERY: u64 = 6;
-
-fn say(out: Stdout, text: &[u8]) -> io::Result<()> {
-    out.write_all(text)
-}
-
-fn register(out: Stdout, name: &[u8], n: u64) -> io::Result<()> {
-    say(out, name)?;
-    println!(out; " 0x{n:09x}")
-}
 
 // The registers are lent, and the record that was lent is handed out: the promise is again the one of `call::call`.
 fn lent(
@@ -44,7 +35,6 @@ fn lent(
 }
 
 fn main(rt: HostRuntime) -> io::Result<()> {
-    let out = rt.stdout();
     // Three blank pages; VMPL 1 and EFER bit 12 make page 1 a VMSA that launch takes. Page 0 is the calling page, and page 2 the monitor's.
     let mut memory = [0u8; 12288];
     let mut table = [0u8; 3];
@@ -59,12 +49,12 @@ fn main(rt: HostRuntime) -> io::Result<()> {
         apic: 0,
         valid: 0,
     };
-    match monitor::launch::launch(&mut memory, &mut table, &mut sheet, 3, plan) {
-        Launched::Made => {}
-        _ => say(out, b"The machine is not made.\n")?,
+    let made = monitor::launch::launch(&mut memory, &mut table, &mut sheet, 3, plan);
+    if made.is_err() {
+        println!(rt; "The machine is not made.")?;
     }
     memory[0] = 1;
-    let g = Registers {
+    let asked = Registers {
         rax: QUERY,
         rcx: 1,
         rdx: 0,
@@ -72,16 +62,13 @@ fn main(rt: HostRuntime) -> io::Result<()> {
         r9: 0,
         reason: 0x403,
     };
-    let called = lent(&mut memory, &mut table, &mut sheet, g, 0);
-    let outcome = called.outcome;
-    let after = called.registers;
+    let Called { outcome, registers } = lent(&mut memory, &mut table, &mut sheet, asked, 0);
     match outcome {
-        Outcome::Handled => say(
-            out,
-            b"Query with RCX 1: handled. The record that was lent now has\n",
+        Outcome::Handled => println!(rt;
+            "Query with RCX 1: handled. The record that was lent now has"
         )?,
-        _ => say(out, b"Query with RCX 1: not handled.\n")?,
+        _ => println!(rt; "Query with RCX 1: not handled.")?,
     }
-    register(out, b"RAX", after.rax)?;
-    register(out, b"RCX", after.rcx)
+    println!(rt; "RAX 0x{:09x}", registers.rax)?;
+    println!(rt; "RCX 0x{:09x}", registers.rcx)
 }

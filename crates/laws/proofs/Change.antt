@@ -4,10 +4,10 @@ use mathlib.Core.Path.{◌≡◌, refl, sym, ◌∙◌, ap}
 use mathlib.Core.Bool.{cond}
 use mathlib.Core.List.{[]}
 use Prim.Native.Nat.{ℕ, ◌<◌, ◌≤◌}
-use lib.Dec.{eqb}
-use lib.ListN.{get_or, set, length-set}
-use lib.Seq.{set_out, get_or-set_same, get_or-set_other}
-use borrow.Author.Tests.{eqb-true, eqb-false}
+use lib.Dec.{eqb, ltb}
+use lib.ListN.{length, get_or, set, length-set}
+use lib.Seq.{set_out, set-set, get_or-set_same, get_or-set_other}
+use borrow.Author.Tests.{eqb-true, eqb-false, ltb-true, ltb-false}
 use Rattle.rules.specs.Machine.{Lent, N, page_at, table_byte, put, change}
 use Rattle.laws.specs.Revised.{revise}
 use Rattle.laws.proofs.Ranges.{by_test}
@@ -90,3 +90,11 @@ module _ (f : ℕ → ℕ) (q : ℕ) (m : Lent) where
 -- machines of one table have one after it
 pub change_alike : (f : ℕ → ℕ) (q : ℕ) (m m' : Lent) → m.table ≡ m'.table → (change f q m).table ≡ (change f q m').table
 change_alike f q m m' e = change_table f q m ∙ ap (revise f 0 q) e ∙ sym (change_table f q m')
+
+-- a byte changed twice is changed once by both
+pub change_twice : (f g : ℕ → ℕ) (q : ℕ) (m : Lent) → change g q (change f q m) ≡ change (λ b. g (f b)) q m
+unfolding change put table_byte
+change_twice f g q m =
+    by_test (ltb q (length m.table))
+    (λ t. rw (get_or-set_same m.table q (f (get_or m.table q 0)) 0 (ltb-true q (length m.table) t), set-set))
+    (λ t. let past = ltb-false q (length m.table) t in rw (set_out m.table q (f (get_or m.table q 0)) past, set_out m.table q _ past, set_out m.table q _ past))

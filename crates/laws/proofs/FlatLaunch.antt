@@ -5,9 +5,10 @@ use Prim.Native.Nat.{ℕ, ◌*◌, ◌+◌, ◌<◌}
 use lib.Dec.{leb, ltb, eqb}
 use borrow.Author.Tests.{leb-false, eq-eqb}
 use lib.ListN.{length}
+use Rattle.std.specs.Prelude.{Ok, Err}
 use Rattle.rules.specs.Words.{record_size, records}
 use Rattle.rules.specs.declared.Plan.{Plan}
-use Rattle.rules.specs.declared.Launched.TheVariants.{Made, WrongSize, OutOfRange, AreasMeet, UnfitVmsa}
+use Rattle.rules.specs.declared.LaunchError.TheVariants.{WrongSize, OutOfRange, AreasMeet, UnfitVmsa}
 use Rattle.rules.specs.Answers.{refuse}
 use Rattle.rules.specs.Machine.{N, page_at}
 use Rattle.rules.specs.Launch.{out_of_range, areas_meet, unfit_vmsa, made, launch}
@@ -46,26 +47,26 @@ in_range plan n e =
     (leb-false n plan.vmsa (or_false monitor vmsa two.0).1, leb-false n plan.calling two.1)
 
 module _ (n : ℕ) (plan : Plan) (b : Buffers) where
-  pub launch_unsized : (well_sized b && eqb n (length b.table)) ≡ false → launch_bytes n plan b ≡ record { answer = WrongSize; after = b }
+  pub launch_unsized : (well_sized b && eqb n (length b.table)) ≡ false → launch_bytes n plan b ≡ record { answer = Err WrongSize; after = b }
   unfolding launch_bytes refuse
   launch_unsized e = rw e
 
   module _ (sized : well_sized b ≡ true) (told : eqb n (length b.table) ≡ true) where
-    pub launch_out_of_range : out_of_range plan (N (parted b)) ≡ true → launch_bytes n plan b ≡ record { answer = OutOfRange; after = b }
+    pub launch_out_of_range : out_of_range plan (N (parted b)) ≡ true → launch_bytes n plan b ≡ record { answer = Err OutOfRange; after = b }
     unfolding launch_bytes launch refuse
     launch_out_of_range e = rw (sized, told, e, joined_parted b sized)
 
     module _ (within : out_of_range plan (N (parted b)) ≡ false) where
-      pub launch_areas_meet : areas_meet plan ≡ true → launch_bytes n plan b ≡ record { answer = AreasMeet; after = b }
+      pub launch_areas_meet : areas_meet plan ≡ true → launch_bytes n plan b ≡ record { answer = Err AreasMeet; after = b }
       unfolding launch_bytes launch refuse
       launch_areas_meet e = rw (sized, told, within, e, joined_parted b sized)
 
       module _ (apart : areas_meet plan ≡ false) where
-        pub launch_unfit : unfit_vmsa (page_at (parted b) plan.vmsa) ≡ true → launch_bytes n plan b ≡ record { answer = UnfitVmsa; after = b }
+        pub launch_unfit : unfit_vmsa (page_at (parted b) plan.vmsa) ≡ true → launch_bytes n plan b ≡ record { answer = Err UnfitVmsa; after = b }
         unfolding launch_bytes launch refuse
         launch_unfit e = rw (sized, told, within, apart, e, joined_parted b sized)
 
         pub launch_made : (a : Buffers) → unfit_vmsa (page_at (parted b) plan.vmsa) ≡ false
-            → well_sized a ≡ true → parted a ≡ (made plan (parted b)).lent → launch_bytes n plan b ≡ record { answer = Made; after = a }
+            → well_sized a ≡ true → parted a ≡ (made plan (parted b)).lent → launch_bytes n plan b ≡ record { answer = Ok tt; after = a }
         unfolding launch_bytes launch refuse
         launch_made a e s w = rw (sized, told, within, apart, e, ← w, joined_parted a s)

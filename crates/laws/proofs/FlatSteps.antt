@@ -7,9 +7,9 @@ use native.Mathlib.Omega.{arith}
 use lib.Dec.{eqb, leb, lit<}
 use lib.ListN.{length}
 use borrow.Author.Tests.{eqb-true, leb-true}
-use Rattle.rules.specs.declared.Verdict.TheVariants.{Done, Refused}
+use Rattle.std.specs.Prelude.{Ok, Err}
 use Rattle.rules.specs.Words.{between, page_size, least_pages, most_pages, records, record_size}
-use Rattle.rules.specs.Answers.{refuse}
+use Rattle.rules.specs.Answers.{refusal, refuse}
 use Rattle.rules.specs.Machine.{Lent, amend, record_at, write, with_memory, written}
 use Rattle.rules.specs.Steps.{store, may_store, mark, may_mark}
 use Rattle.rules.specs.Flat.{buffers, parts, join, parted, store_bytes, mark_bytes, memory_fits, memory_sized, sheet_sized}
@@ -51,19 +51,19 @@ abbrev pub of_sheet : List ℕ → Lent
 of_sheet sheet = parted (buffers [] [] sheet)
 
 module _ (i value : ℕ) (sheet : List ℕ) where
-  pub mark_unsized : sheet_sized sheet ≡ false → mark_bytes i value sheet ≡ record { answer = Refused; after = sheet }
+  pub mark_unsized : sheet_sized sheet ≡ false → mark_bytes i value sheet ≡ record { answer = Err refusal; after = sheet }
   unfolding mark_bytes refuse
   mark_unsized e = rw e
 
   pub mark_refused : sheet_sized sheet ≡ true → may_mark i value (of_sheet sheet) ≡ false
-      → mark_bytes i value sheet ≡ record { answer = Refused; after = sheet }
+      → mark_bytes i value sheet ≡ record { answer = Err refusal; after = sheet }
   unfolding mark_bytes mark refuse parted
   mark_refused s e = rw (s, e, join_sheet sheet s)
 
   -- done: a sheet whose record i has the byte +2
   pub mark_done : (after : List ℕ) → sheet_sized sheet ≡ true → may_mark i value (of_sheet sheet) ≡ true
       → length after ≡ length sheet → parts record_size after ≡ written i 2 (value ∷ []) (parts record_size sheet)
-      → mark_bytes i value sheet ≡ record { answer = Done; after = after }
+      → mark_bytes i value sheet ≡ record { answer = Ok tt; after = after }
   unfolding mark_bytes mark refuse parted amend record_at written sheet_sized
   mark_done after s e l w = rw (s, e, ← w, join_sheet after (ap (λ (n : ℕ). eqb n (record_size * records)) l ∙ s))
 
@@ -72,18 +72,18 @@ abbrev pub of_memory : List ℕ → List ℕ → Lent
 of_memory table memory = parted (buffers memory table [])
 
 module _ (c p offset : ℕ) (bytes table memory : List ℕ) where
-  pub store_unsized : memory_sized table memory ≡ false → store_bytes c p offset bytes table memory ≡ record { answer = Refused; after = memory }
+  pub store_unsized : memory_sized table memory ≡ false → store_bytes c p offset bytes table memory ≡ record { answer = Err refusal; after = memory }
   unfolding store_bytes refuse
   store_unsized e = rw e
 
   pub store_refused : memory_sized table memory ≡ true → may_store c p offset (length bytes) (of_memory table memory) ≡ false
-      → store_bytes c p offset bytes table memory ≡ record { answer = Refused; after = memory }
+      → store_bytes c p offset bytes table memory ≡ record { answer = Err refusal; after = memory }
   unfolding store_bytes store refuse parted
   store_refused s e = rw (s, e, join_memory table memory s)
 
   -- done: a memory whose page p has the bytes
   pub store_done : (after : List ℕ) → memory_sized table memory ≡ true → may_store c p offset (length bytes) (of_memory table memory) ≡ true
       → length after ≡ length memory → parts page_size after ≡ written p offset bytes (parts page_size memory)
-      → store_bytes c p offset bytes table memory ≡ record { answer = Done; after = after }
+      → store_bytes c p offset bytes table memory ≡ record { answer = Ok tt; after = after }
   unfolding store_bytes store refuse parted write with_memory memory_sized
   store_done after s e l w = rw (s, e, ← w, join_memory table after (ap (λ (n : ℕ). memory_fits (length table) n) l ∙ s))

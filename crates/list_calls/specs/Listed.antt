@@ -1,11 +1,21 @@
--- What a run over a list is told: outcome 3's tests were passed, the list's page is below N, and its entries lie within it.
-use Rattle.std.specs.Prelude.{ℕ, ◌+◌, ◌*◌, ◌<◌, ◌≤◌, length}
-use Rattle.rules.specs.Words.{page_size}
-use Rattle.rules.specs.Machine.{page_of, offset_of}
-use Rattle.rules.specs.Flat.{Buffers}
-use Rattle.laws.specs.Tested.{Tested}
+-- What the methods of a list are told, and what its head's answer makes of a call.
+use Rattle.std.specs.Prelude.{ℕ, ◌+◌, ◌<◌, ◌≤◌, min, length, Result, Ok, Err}
+use Rattle.rules.specs.declared.Refusal.{Refusal}
+use Rattle.rules.specs.declared.ListCall.{ListCall}
+use Rattle.rules.specs.Words.{page_size, records, entries_a_call}
+use Rattle.rules.specs.Answers.{Code, Answered}
+use Rattle.rules.specs.Machine.{Lent, page_of, offset_of}
+use Rattle.rules.specs.Lists.{run}
+use Rattle.machine.specs.declared.held.Machine.{Machine}
+use Rattle.list_calls.specs.declared.List.{List}
 
-pub record Listed (b : Buffers) (caller rcx upto : ℕ) : Type 0 where
-  pub tested : Tested b caller
-  pub below : page_of rcx < length b.table
-  pub within : offset_of rcx + 8 + 8 * upto ≤ page_size
+-- its caller's record is one of the sheet's, its page is below N, and its first `bytes` bytes are in that page
+pub record Listed (list : List) (m : Machine) (bytes : ℕ) : Type 0 where
+  pub caller : list.caller < records
+  pub below : page_of list.gpa.0 < length m.table.now
+  pub within : offset_of list.gpa.0 + bytes ≤ page_size
+
+-- a head that is refused leaves all as it is; else as many entries are done as a call does, of those that are left from next on
+abbrev pub after_head : ListCall → ℕ → ℕ → Result (ℕ × ℕ) Refusal → Lent → Answered Code Lent
+after_head call caller rcx (Ok (next, left)) m = run call caller rcx (min entries_a_call left) next m
+after_head call caller rcx (Err why) m = record { answer = Err why; after = m }

@@ -1,147 +1,157 @@
 // 1 Pvalidate and 4 Deposit: the head of a list, and the run over its entries. Nothing is assumed.
 #![tactic(auto)]
 
-ghost use Rattle.std.specs.Prelude.{◌≡◌, ◌+◌, min};
-ghost use Rattle.rules.specs.Words.{entries_a_call};
-ghost use Rattle.rules.specs.Answers.{Answered, entry_code};
-ghost use Rattle.rules.specs.Lists;
-ghost use Rattle.rules.specs.Flat.{buffers, parted};
+ghost use Rattle.std.specs.Prelude.{◌≡◌, ◌+◌, ◌*◌, ◌<◌, ◌≤◌, IfOk, length};
+ghost use Rattle.rules.specs.Words.{records, entries_a_call};
+ghost use Rattle.rules.specs.Answers.{Answered};
+ghost use Rattle.rules.specs.Machine.{page_of, vcpu};
+ghost use Rattle.rules.specs.Lists.{in_list, list_count, list_entry, carry_out_all, store_index, read_entry, run, list_call};
 ghost use Rattle.laws.specs.Tested.{Tested};
-ghost use Rattle.list_calls.specs.Listed.{Listed};
+ghost use Rattle.machine.specs.Held.{bytes_of, lent_of, SameBuffers};
+ghost use Rattle.list_calls.specs.Listed.{Listed, after_head};
 
-use pages::{PAGE_SIZE, PAGE_SIZE_U64};
-use rules::{Code, Entry, ListCall};
+use effects::carry_out_all;
+use entries::reader::read;
+use lists::list_page;
+use machine::held::Machine;
+use pages::PAGE_SIZE;
+use pages::gpa::Gpa;
+use rules::{Code, Entry, ListCall, Progress, Refusal};
+use words::Little;
 
 pub const ENTRIES_A_CALL: usize = 32;
 
-// The code that an entry was refused with.
-fn refusal(entry: Entry) -> Code
-    ensures { result ≡ entry_code entry }
-{
-    match entry {
-        Entry::Reads {
-            first: _,
-            count: _,
-            wish: _,
-        } => Code::Success,
-        Entry::Unread(code) => code,
-    }
-}
-
-// The end of a run that was not refused: the new index, and whether entries remain.
-fn stop(
-    memory: &mut [u8],
-    table: &[u8],
-    sheet: &[u8],
+// A list that a call works through, for the caller that names it.
+#[derive(Clone, Copy)]
+struct List {
     call: ListCall,
     caller: usize,
-    rcx: u64,
-    k: usize,
-) -> Code
-    requires { Listed (buffers memory.old table.now sheet.now) caller rcx k }
-    ensures { Rattle.rules.specs.Lists.run call caller rcx 0 k
-        (parted (buffers memory.old table.now sheet.now))
-        ≡ record {
-          answer = result;
-          after = parted (buffers memory.new table.now sheet.now);
-        } }
-{
-    let page = (rcx / PAGE_SIZE_U64) as usize;
-    let offset = (rcx % PAGE_SIZE_U64) as usize;
-    let count = parts::number2(memory, PAGE_SIZE, page, offset) as usize;
-    parts::put_number2(memory, PAGE_SIZE, page, offset + 2, k as u16);
-    if k < count {
-        Code::Incomplete
-    } else {
-        Code::Success
-    }
+    gpa: Gpa,
 }
 
-// `budget` entries from index `start` on.
-fn run(
-    memory: &mut [u8],
-    table: &mut [u8],
-    sheet: &[u8],
-    call: ListCall,
-    caller: usize,
-    rcx: u64,
-    start: usize,
-    budget: usize,
-) -> Code
-    requires { Listed (buffers memory.old table.old sheet.now) caller rcx (start + budget) }
-    ensures { Rattle.rules.specs.Lists.run call caller rcx budget start
-        (parted (buffers memory.old table.old sheet.now))
-        ≡ record {
-          answer = result;
-          after = parted (buffers memory.new table.new sheet.now);
-        } }
+// What an entry does. It asks for memory and table alone.
+#[tactic(auto, using(effects::proofs::Laws::all_after, machine::proofs::Placed::pages_held))]
+fn carry_out(machine: &mut Machine, entry: Entry, vmpl: u8)
+    requires { entry.first + entry.count ≤ length machine.old.table.now }
+    ensures same { SameBuffers machine.old machine.new }
+    ensures done { carry_out_all entry.wish vmpl entry.first entry.count (lent_of machine.old) ≡ lent_of machine.new }
 {
-    let page = (rcx / PAGE_SIZE_U64) as usize;
-    let offset = (rcx % PAGE_SIZE_U64) as usize;
-    let vmpl = parts::byte(sheet, sheet::RECORD_SIZE, caller, sheet::VMPL);
-    let end = start + budget;
-    let mut k = start;
-    while k < end {
-        let e = parts::number8(memory, PAGE_SIZE, page, offset + 8 + 8 * k);
-        let entry = entries::reader::read(table, call, vmpl, page, e);
-        let Entry::Reads { first, count, wish } = entry else {
-            parts::put_number2(memory, PAGE_SIZE, page, offset + 2, k as u16);
-            return refusal(entry);
-        };
-        effects::carry_out_all(memory, table, wish, vmpl, first, count);
-        k += 1;
-    }
-    stop(memory, table, sheet, call, caller, rcx, k)
+    let memory = &mut *machine.memory;
+    let table = &mut *machine.table;
+    carry_out_all(memory, table, entry, vmpl);
 }
 
-// As many entries as a call does.
-fn at_most(left: usize) -> usize
-    ensures { result ≡ min entries_a_call left }
-{
-    if left < ENTRIES_A_CALL {
-        left
-    } else {
-        ENTRIES_A_CALL
+impl List {
+    fn page(self) -> usize
+        ensures { result ≡ page_of self.gpa.0 }
+    {
+        self.gpa.page() as usize
+    }
+
+    // The number that stands in it from `at` on.
+    #[tactic(auto, unfolding(rules::specs::Lists::in_list, rules::specs::Words::page_size))]
+    fn number<N: Little>(self, machine: &Machine, at: usize) -> N
+        requires { Listed self machine.now (at + N.width) }
+        ensures { N.value result ≡ in_list N.width at self.gpa.0 (lent_of machine.now) }
+    {
+        machine.number(self.page(), self.gpa.offset() + at)
+    }
+
+    #[tactic(auto, unfolding(rules::specs::Lists::list_count))]
+    fn count(self, machine: &Machine) -> u16
+        requires { Listed self machine.now 8 }
+        ensures { result ≡ list_count self.gpa.0 (lent_of machine.now) }
+    {
+        self.number(machine, 0)
+    }
+
+    // The head's checks in order: where the run begins, and how many entries there are from there on.
+    #[tactic(auto, using(lists::proofs::Page::list_page_table, crate::proofs::Runs::list_below), unfolding(rules::specs::Lists::list_call, rules::specs::Lists::run_within, rules::specs::Lists::bad_count, rules::specs::Lists::bad_next, rules::specs::Lists::list_next, rules::specs::Answers::refuse, rules::specs::Words::multiple, rules::specs::Words::page_size, rules::specs::Machine::offset_of))]
+    fn head(self, machine: &Machine) -> Result<(usize, usize), Refusal>
+        requires { self.caller < records }
+        ensures is { list_call entries_a_call self.call self.caller self.gpa.0 (lent_of machine.now)
+            ≡ after_head self.call self.caller self.gpa.0 result (lent_of machine.now) }
+        ensures listed { IfOk result (λ told. Listed self machine.now (8 + 8 * (told.0 + told.1))) }
+    {
+        if self.gpa.0 % 8 != 0 {
+            return Err(Refusal::Parameter);
+        }
+        list_page(machine.table, machine.vcpu(self.caller).vmpl, self.gpa)?;
+        let count = usize::from(self.count(machine));
+        if count == 0 || self.gpa.offset() + 8 + 8 * count > PAGE_SIZE {
+            return Err(Refusal::Parameter);
+        }
+        let next = usize::from(self.number::<u16>(machine, 2));
+        if next >= count {
+            return Err(Refusal::Parameter);
+        }
+        Ok((next, count - next))
+    }
+
+    // Entry k, as it reads.
+    #[tactic(auto, using(entries::proofs::Whole::read_whole), unfolding(rules::specs::Lists::list_entry, rules::specs::Words::page_size, rules::specs::Flat::parted))]
+    fn entry(self, machine: &Machine, k: usize) -> Result<Entry, Refusal>
+        requires { Listed self machine.now (16 + 8 * k) }
+        ensures is { result ≡ read_entry self.call (vcpu (lent_of machine.now) self.caller).vmpl self.gpa.0
+            (list_entry k self.gpa.0 (lent_of machine.now)) (lent_of machine.now) }
+        ensures within { IfOk result (λ entry. entry.first + entry.count ≤ length machine.now.table.now) }
+    {
+        let vmpl = machine.vcpu(self.caller).vmpl;
+        let e = self.number(machine, 8 + 8 * k);
+        read(machine.table, self.call, vmpl, self.page(), e)
+    }
+
+    #[tactic(auto, unfolding(rules::specs::Lists::store_index, rules::specs::Words::page_size))]
+    fn store_index(self, machine: &mut Machine, k: usize)
+        requires { Listed self machine.old (8 + 8 * k) }
+        ensures same { SameBuffers machine.old machine.new }
+        ensures done { lent_of machine.new ≡ store_index k self.gpa.0 (lent_of machine.old) }
+    {
+        machine.write(self.page(), self.gpa.offset() + 2, k as u16);
+    }
+
+    // `todo` entries from index `start` on.
+    #[tactic(auto, using(crate::proofs::Runs::run_more, crate::proofs::Runs::run_refused, crate::proofs::Runs::run_ends), unfolding(rules::specs::Words::page_size))]
+    fn run(self, machine: &mut Machine, start: usize, todo: usize) -> Code
+        requires { Listed self machine.old (8 + 8 * (start + todo)) }
+        ensures same { SameBuffers machine.old machine.new }
+        ensures done { run self.call self.caller self.gpa.0 todo start (lent_of machine.old)
+            ≡ record { answer = result; after = lent_of machine.new } }
+    {
+        let end = start + todo;
+        for k in start..end {
+            let vmpl = machine.vcpu(self.caller).vmpl;
+            match self.entry(machine, k) {
+                Ok(entry) => carry_out(machine, entry, vmpl),
+                Err(why) => {
+                    self.store_index(machine, k);
+                    return Err(why);
+                }
+            }
+        }
+        let count = usize::from(self.count(machine));
+        self.store_index(machine, end);
+        if end < count {
+            Ok(Progress::Incomplete)
+        } else {
+            Ok(Progress::Success)
+        }
     }
 }
 
 // 1 Pvalidate, 4 Deposit.
-pub fn list_call(
-    memory: &mut [u8],
-    table: &mut [u8],
-    sheet: &[u8],
-    call: ListCall,
-    caller: usize,
-    rcx: u64,
-) -> Code
-    requires { Tested (buffers memory.old table.old sheet.now) caller }
-    ensures { Rattle.rules.specs.Lists.list_call entries_a_call call caller rcx
-        (parted (buffers memory.old table.old sheet.now))
-        ≡ record {
-          answer = result;
-          after = parted (buffers memory.new table.new sheet.now);
-        } }
+#[tactic(auto, using(laws::proofs::Tested::caller_below), unfolding(rules::specs::Words::entries_a_call))]
+pub fn list_call(machine: &mut Machine, call: ListCall, caller: usize, rcx: u64) -> Code
+    requires { Tested (bytes_of machine.old) caller }
+    ensures same { SameBuffers machine.old machine.new }
+    ensures done { list_call entries_a_call call caller rcx (lent_of machine.old)
+        ≡ record { answer = result; after = lent_of machine.new } }
 {
-    if rcx % 8 != 0 {
-        return Code::Parameter;
-    }
-    let vmpl = parts::byte(sheet, sheet::RECORD_SIZE, caller, sheet::VMPL);
-    if lists::bad_list_page(table, vmpl, rcx) {
-        return Code::Address;
-    }
-    let page = (rcx / PAGE_SIZE_U64) as usize;
-    let offset = (rcx % PAGE_SIZE_U64) as usize;
-    let count = parts::number2(memory, PAGE_SIZE, page, offset) as usize;
-    if count == 0 {
-        return Code::Parameter;
-    }
-    if offset + 8 + 8 * count > PAGE_SIZE {
-        return Code::Parameter;
-    }
-    let next = parts::number2(memory, PAGE_SIZE, page, offset + 2) as usize;
-    if next >= count {
-        return Code::Parameter;
-    }
-    let budget = at_most(count - next);
-    run(memory, table, sheet, call, caller, rcx, next, budget)
+    let list = List {
+        call,
+        caller,
+        gpa: Gpa(rcx),
+    };
+    let (next, left) = list.head(machine)?;
+    list.run(machine, next, ENTRIES_A_CALL.min(left))
 }

@@ -1,2 +1,5 @@
+pub mod Answer
+pub mod Free
 pub mod Masks
+pub mod Numbered
 pub mod Within

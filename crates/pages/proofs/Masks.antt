@@ -1,11 +1,12 @@
 -- The masks of `byte`: one test, computed over the 256 bytes, and the rule at each byte.
 -- Assumes nothing.
-use mathlib.Core.Path.{◌≡◌, refl}
+use mathlib.Core.Path.{◌≡◌, refl, ◌∙◌}
 use mathlib.Core.Bool.{Bool, true}
-use Prim.Native.Nat.{ℕ, ◌<◌, zero-le}
+use Prim.Native.Nat.{ℕ, ◌<◌, ◌≤◌, zero-le}
+use native.Mathlib.Omega.{arith}
 use lib.Bits.{bit_and, bit_or}
 use lib.Dec.{eqb}
-use borrow.Author.Tests.{eqb-true}
+use borrow.Author.Tests.{eqb-true, le-leb}
 use Rattle.rules.specs.Words.{range, every, bit, with_bit, without_bit}
 use Rattle.rules.specs.Machine.{grant, revoke, make_valid, make_invalid}
 use Rattle.laws.proofs.Ranges.{every_range→}
@@ -17,6 +18,10 @@ agree mask change b = eqb (mask b) (change b)
 masked : (mask change : ℕ → ℕ) → every (agree mask change) (range 0 256) ≡ true → (b : ℕ) → b < 256 → mask b ≡ change b
 masked mask change t b h = eqb-true (mask b) (change b) (every_range→ (agree mask change) 0 256 t b zero-le h)
 
+pub grant_0 : (b : ℕ) → b ≡ grant 0 b
+unfolding grant
+grant_0 b = refl
+
 pub grant_1 : (b : ℕ) → b < 256 → bit_or b 16 ≡ grant 1 b
 unfolding range every grant with_bit bit
 grant_1 = masked (λ b. bit_or b 16) (grant 1) refl
@@ -25,9 +30,12 @@ pub grant_2 : (b : ℕ) → b < 256 → bit_or b 48 ≡ grant 2 b
 unfolding range every grant with_bit bit
 grant_2 = masked (λ b. bit_or b 48) (grant 2) refl
 
-pub grant_3 : (b : ℕ) → b < 256 → bit_or b 112 ≡ grant 3 b
+-- above 3 as at 3
+pub grant_3 : (c b : ℕ) → 3 ≤ c → b < 256 → bit_or b 112 ≡ grant c b
 unfolding range every grant with_bit bit
-grant_3 = masked (λ b. bit_or b 112) (grant 3) refl
+grant_3 c b high h =
+    masked (λ b. bit_or b 112) (grant 3) refl b h
+    ∙ rw (le-leb 1 c (omega arith), le-leb 2 c (omega arith), le-leb 3 c high)
 
 pub revoke_all : (b : ℕ) → b < 256 → bit_and b 143 ≡ revoke b
 unfolding range every revoke without_bit bit

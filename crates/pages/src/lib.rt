@@ -1,17 +1,15 @@
-// Pages: the table byte, guest memory, the pool in the table, the test of a page, and the fields of a VMSA page. Each function is proved against a
-// definition of `rules`. Nothing is assumed.
+// Pages: the table byte, a guest physical address, guest memory, the pool in the table, the test of a page, and the fields of a VMSA page. Each function
+// is proved against a definition of `rules`. Nothing is assumed.
 #![tactic(auto)]
 
 pub mod byte;
+pub mod gpa;
 pub mod memory;
 pub mod pool;
 pub mod usable;
 pub mod vmsa;
 
 pub const PAGE_SIZE: usize = 4096;
-
-// The same, as registers count it.
-pub const PAGE_SIZE_U64: u64 = PAGE_SIZE as u64;
 
 pub const LEAST_PAGES: usize = 3;
 

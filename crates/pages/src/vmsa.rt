@@ -1,4 +1,6 @@
 // The fields of a VMSA page: VMPL, EFER and features.
+#![tactic(auto, using(crate::proofs::Within::in_page), unfolding(rules::specs::Machine::vmsa_vmpl, rules::specs::Machine::vmsa_features, rules::specs::Machine::efer, rules::specs::Words::page_size))]
+
 ghost use Rattle.std.specs.Prelude.{◌≡◌, [], ◌<◌, length, get_or};
 ghost use Rattle.rules.specs.Words.{page_size};
 ghost use Rattle.rules.specs.Machine.{vmsa_vmpl, vmsa_features, efer};
@@ -18,14 +20,14 @@ pub fn features_of(memory: &[u8], page: usize) -> u64
     requires { page < length (parts page_size memory.now) }
     ensures { result ≡ vmsa_features (get_or (parts page_size memory.now) page []) }
 {
-    parts::number8(memory, PAGE_SIZE, page, 0x3B0)
+    parts::number(memory, PAGE_SIZE, page, 0x3B0)
 }
 
 pub fn efer_of(memory: &[u8], page: usize) -> u64
     requires { page < length (parts page_size memory.now) }
     ensures { result ≡ efer (get_or (parts page_size memory.now) page []) }
 {
-    parts::number8(memory, PAGE_SIZE, page, 0xD0)
+    parts::number(memory, PAGE_SIZE, page, 0xD0)
 }
 
 // VMPL not 1 to 3, or EFER bit 12 clear.
@@ -34,12 +36,5 @@ pub fn is_unfit(memory: &[u8], page: usize) -> bool
     requires { page < length (parts page_size memory.now) }
     ensures { result ≡ unfit_vmsa (get_or (parts page_size memory.now) page []) }
 {
-    let vmpl = vmpl_of(memory, page);
-    if vmpl < 1 {
-        return true;
-    }
-    if vmpl > 3 {
-        return true;
-    }
-    efer_of(memory, page) / 4096 % 2 != 1
+    !(1..=3).contains(&vmpl_of(memory, page)) || efer_of(memory, page) >> 12 & 1 != 1
 }

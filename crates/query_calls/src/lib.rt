@@ -2,58 +2,40 @@
 #![tactic(auto)]
 
 ghost use Rattle.std.specs.Prelude.{◌≡◌};
-ghost use Rattle.rules.specs.Answers.{Answered};
-ghost use Rattle.rules.specs.Calls.{query, configure, vtom};
+ghost use Rattle.rules.specs.Calls;
+ghost use Rattle.rules.specs.Calls.{query, configure};
 
-use rules::Code;
+use rules::{Code, Progress, Refusal};
 
 // 6 Query: RCX after it. Its code is success.
+#[tactic(auto, unfolding(rules::specs::Calls::query))]
 pub fn queried(rcx: u64) -> u64
     ensures { result ≡ query rcx }
 {
     if rcx == 1 { 0x0000000100000001 } else { 0 }
 }
 
-// The code of vTOM, and RCX after it.
-#[derive(Clone, Copy)]
-pub struct Told {
-    pub code: Code,
-    pub rcx: u64,
-}
-
+#[tactic(auto, unfolding(rules::specs::Calls::configure, rules::specs::Answers::refuse, rules::specs::Words::bits, rules::specs::Words::bit))]
 fn configured(rcx: u64) -> Code
     ensures { configure rcx ≡ record { answer = result; after = rcx } }
 {
-    if rcx / 32 % 128 != 0 {
-        return Code::Parameter;
+    if rcx >> 5 & 0x7F != 0 || rcx >> 1 & 1 == 0 && rcx >> 12 != 0 {
+        return Err(Refusal::Parameter);
     }
-    if rcx / 2 % 2 == 1 {
-        return Code::Request;
-    }
-    if rcx / 4096 % 4503599627370496 != 0 {
-        return Code::Parameter;
-    }
-    Code::Request
+    Err(Refusal::Request)
 }
 
 // 7 vTOM.
-pub fn answered(rcx: u64) -> Told
-    ensures { vtom rcx ≡ record { answer = result.code; after = result.rcx } }
+#[tactic(auto, unfolding(rules::specs::Calls::vtom, rules::specs::Answers::refuse, rules::specs::Words::bit))]
+pub fn vtom(rcx: &mut u64) -> Code
+    ensures { Rattle.rules.specs.Calls.vtom rcx.old ≡ record { answer = result; after = rcx.new } }
 {
-    if rcx == 1 {
-        return Told {
-            code: Code::Success,
-            rcx: 0,
-        };
-    }
-    if rcx % 2 == 1 {
-        return Told {
-            code: Code::Parameter,
-            rcx,
-        };
-    }
-    Told {
-        code: configured(rcx),
-        rcx,
+    match *rcx {
+        1 => {
+            *rcx = 0;
+            Ok(Progress::Success)
+        }
+        odd if odd & 1 == 1 => Err(Refusal::Parameter),
+        even => configured(even),
     }
 }

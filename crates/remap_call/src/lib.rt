@@ -1,91 +1,50 @@
 // 0 Remap: the caller's calling area moves to another page. Nothing is assumed.
 #![tactic(auto)]
 
-ghost use Rattle.std.specs.Prelude.{◌≡◌, cond, not, ◌&&◌, ◌<◌, eqb, length};
+ghost use Rattle.std.specs.Prelude.{◌≡◌, ◌<◌, length};
+ghost use Rattle.rules.specs.Words.{records};
 ghost use Rattle.rules.specs.Answers.{Answered};
 ghost use Rattle.rules.specs.Calls.{remap, remapped};
-ghost use Rattle.rules.specs.Machine.{plain, calling_area, owner, own};
-ghost use Rattle.rules.specs.Flat.{buffers, parted};
-ghost use Rattle.laws.specs.Revised.{revise};
 ghost use Rattle.laws.specs.Tested.{Tested};
-ghost use Rattle.remap_call.specs.Move.{Move};
+ghost use Rattle.machine.specs.Held.{bytes_of, lent_of, SameBuffers};
 
-use pages::{PAGE_SIZE, PAGE_SIZE_U64};
-use rules::Code;
+use machine::held::Machine;
+use pages::byte::{Owner, is_owned};
+use pages::gpa::Gpa;
+use rules::{Code, Progress, Refusal};
 
-// The old page turns plain, the new one calling: one change of the table byte where they are the same.
-fn move_area(table: &mut [u8], old: usize, new: usize)
-    requires { (old < length table.old) × (new < length table.old) }
-    ensures { table.new
-        ≡ revise (own calling_area) 0 new (cond (eqb old new) table.old (revise (own plain) 0 old table.old)) }
+// The old page turns plain, the new one calling and named by the record, and byte 0 of each is 0. They may be the same.
+#[tactic(auto, using(laws::proofs::FlatSteps::sizes), unfolding(rules::specs::Words::page_size, rules::specs::Words::most_pages))]
+fn move_area(machine: &mut Machine, caller: usize, old: usize, new: usize)
+    requires caller { caller < records }
+    requires old { old < length machine.old.table.now }
+    requires new { new < length machine.old.table.now }
+    ensures same { SameBuffers machine.old machine.new }
+    ensures done { lent_of machine.new ≡ remapped caller old new (lent_of machine.old) }
 {
-    if old == new {
-        table[new] = pages::byte::owned(1, table[new]);
-        return;
-    }
-    table[old] = pages::byte::owned(0, table[old]);
-    table[new] = pages::byte::owned(1, table[new]);
+    machine.set_owner(old, Owner::Plain);
+    machine.set_owner(new, Owner::CallingArea);
+    machine.set_calling(caller, new as u32);
+    machine.write_byte(old, 0, 0);
+    machine.write_byte(new, 0, 0);
 }
 
-// Table, record, and byte 0 of each page, in this order.
-fn move_all(
-    memory: &mut [u8],
-    table: &mut [u8],
-    sheet: &mut [u8],
-    caller: usize,
-    old: usize,
-    new: usize,
-)
-    requires { Move (buffers memory.old table.old sheet.old) caller old new }
-    ensures { remapped caller old new
-        (parted (buffers memory.old table.old sheet.old))
-        ≡ parted (buffers memory.new table.new sheet.new) }
+#[tactic(auto, using(crate::proofs::Moved::caller_in, crate::proofs::Moved::area_in), unfolding(rules::specs::Calls::remap, rules::specs::Answers::refuse, rules::specs::Machine::usable, rules::specs::Machine::below, rules::specs::Machine::N, rules::specs::Machine::owned_by, rules::specs::Machine::table_byte, rules::specs::Machine::page_of, rules::specs::Words::page_size, rules::specs::Flat::parted))]
+pub fn remap(machine: &mut Machine, caller: usize, rcx: u64) -> Code
+    requires { Tested (bytes_of machine.old) caller }
+    ensures same { SameBuffers machine.old machine.new }
+    ensures done { remap caller rcx (lent_of machine.old) ≡ record { answer = result; after = lent_of machine.new } }
 {
-    move_area(table, old, new);
-    parts::put_number4(
-        sheet,
-        sheet::RECORD_SIZE,
-        caller,
-        sheet::CALLING,
-        new as u32,
-    );
-    parts::put_byte(memory, PAGE_SIZE, old, 0, 0);
-    parts::put_byte(memory, PAGE_SIZE, new, 0, 0);
-}
-
-// The new page is neither plain nor the caller's own calling page.
-fn is_foreign(b: u8, old: usize, new: usize) -> bool
-    ensures { result ≡ (not (eqb (owner b) plain) && not (eqb new old)) }
-{
-    if pages::byte::owner_of(b) == 0 {
-        return false;
+    let gpa = Gpa(rcx);
+    if !gpa.is_page() {
+        return Err(Refusal::Parameter);
     }
-    new != old
-}
-
-pub fn remap(memory: &mut [u8], table: &mut [u8], sheet: &mut [u8], caller: usize, rcx: u64) -> Code
-    requires { Tested (buffers memory.old table.old sheet.old) caller }
-    ensures { remap caller rcx
-        (parted (buffers memory.old table.old sheet.old))
-        ≡ record {
-          answer = result;
-          after = parted (buffers memory.new table.new sheet.new);
-        } }
-{
-    if rcx % PAGE_SIZE_U64 != 0 {
-        return Code::Parameter;
+    let v = machine.vcpu(caller);
+    let old = v.calling as usize;
+    let new = machine.usable(v.vmpl, gpa.page()).ok_or(Refusal::Address)?;
+    if !is_owned(Owner::Plain, machine.table[new]) && new != old {
+        return Err(Refusal::Address);
     }
-    let page = rcx / PAGE_SIZE_U64;
-    let vmpl = parts::byte(sheet, sheet::RECORD_SIZE, caller, sheet::VMPL);
-    let usable = pages::usable::is_usable(table, vmpl, page);
-    if !usable {
-        return Code::Address;
-    }
-    let new = page as usize;
-    let old = parts::number4(sheet, sheet::RECORD_SIZE, caller, sheet::CALLING) as usize;
-    if is_foreign(table[new], old, new) {
-        return Code::Address;
-    }
-    move_all(memory, table, sheet, caller, old, new);
-    Code::Success
+    move_area(machine, caller, old, new);
+    Ok(Progress::Success)
 }

@@ -1,5 +1,5 @@
 -- "What a call comes back with": the four outcomes in their order, the tests of RAX, the last writes.
-use Rattle.std.specs.Prelude.{ℕ, Bool, cond, not, ◌||◌, List, [], ◌∷◌, leb, eqb, get_or}
+use Rattle.std.specs.Prelude.{ℕ, Bool, cond, not, ◌||◌, List, [], ◌∷◌, leb, eqb, get_or, Ok, Err}
 use Rattle.rules.specs.Words.{records, entries_a_call, bits, exists}
 use Rattle.rules.specs.Answers.{Registers, Outcome, Handled, NoCall, Gone, BadMachine, Code, Success, UnknownProtocol, UnknownCall, BadPending}
 use Rattle.rules.specs.Answers.{Pvalidate, Deposit, code_number, Answered, refuse}
@@ -62,15 +62,15 @@ dispatch caller s =
     (cond (is 3) (on_lent (delete caller g.rcx m) s)
     (cond (is 4) (on_lent (list_call entries_a_call Deposit caller g.rcx m) s)
     (cond (is 5) (on_lent (withdraw caller g.rcx m) s)
-    (cond (is 6) (on_rcx (record { answer = Success; after = query g.rcx }) s)
+    (cond (is 6) (on_rcx (record { answer = Ok Success; after = query g.rcx }) s)
     (cond (is 7) (on_rcx (vtom g.rcx) s)
-    (record { answer = UnknownCall; after = s }))))))))
+    (record { answer = Err UnknownCall; after = s }))))))))
 
 -- "First 0x80000004, then protocol .., then call .."
 unfoldable pub handle : ℕ → Posed Registers Machine → Answered Code (Posed Registers Machine)
 handle caller s =
-    refuse s (leb 2 (pending caller s.machine.lent)) BadPending
-    (refuse s (not (eqb (protocol s.registers) 0)) UnknownProtocol
+    refuse s (leb 2 (pending caller s.machine.lent)) (Err BadPending)
+    (refuse s (not (eqb (protocol s.registers) 0)) (Err UnknownProtocol)
     (dispatch caller s))
 
 -- "pending is 0", in the calling page that the record now names

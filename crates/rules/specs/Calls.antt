@@ -1,5 +1,5 @@
 -- "The eight calls, checks in order": all but Pvalidate and Deposit, which are in Lists.
-use Rattle.std.specs.Prelude.{ℕ, ◌+◌, ◌-◌, ◌*◌, ◌/◌, Bool, cond, not, ◌&&◌, ◌||◌, List, [], ◌∷◌, ◌++◌, leb, ltb, eqb, length, take}
+use Rattle.std.specs.Prelude.{ℕ, ◌+◌, ◌-◌, ◌*◌, ◌/◌, Bool, cond, not, ◌&&◌, ◌||◌, List, [], ◌∷◌, ◌++◌, leb, ltb, eqb, length, take, Ok, Err}
 use Rattle.std.proofs.lemmas.List.Edits.{sets}
 use Rattle.rules.specs.Words.{page_size, record_size, multiple, bits, bit, without_bit, little, exists, lowest, places, each}
 use Rattle.rules.specs.Answers.{Vcpu, Code, Success, OneMorePage, Address, Parameter, Request, InUse, Answered, refuse}
@@ -24,9 +24,9 @@ unfoldable pub remap : ℕ → ℕ → Lent → Answered Code Lent
 remap caller rcx m =
     let old : ℕ = (vcpu m caller).calling in
     let new : ℕ = page_of rcx in
-    refuse m (not (multiple page_size rcx)) Parameter
-    (refuse m (not (usable (vcpu m caller).vmpl m new) || not (owned_by plain m new) && not (eqb new old)) Address
-    (record { answer = Success; after = remapped caller old new m }))
+    refuse m (not (multiple page_size rcx)) (Err Parameter)
+    (refuse m (not (usable (vcpu m caller).vmpl m new) || not (owned_by plain m new) && not (eqb new old)) (Err Address)
+    (record { answer = Ok Success; after = remapped caller old new m }))
 
 -- "2 Create. RCX VMSA, RDX calling area, R8 bits 31:0 APIC ID": what is asked for
 pub record Asked : Type 0 where
@@ -99,12 +99,12 @@ unfoldable pub create : ℕ → ℕ → ℕ → ℕ → Lent → Answered Code L
 create caller rcx rdx r8 m =
     let a : Asked = asked caller rcx rdx r8 m in
     let i : ℕ = free_record m in
-    refuse m (not (multiple page_size rcx) || not (multiple page_size rdx)) Parameter
-    (refuse m (unfit_pages a m) Address
-    (refuse m (unfit_vcpu a m) Parameter
-    (refuse m (leb (length m.sheet) i) Request
-    (refuse m (needs_page i && not (any_free m)) OneMorePage
-    (record { answer = Success; after = created a i m })))))
+    refuse m (not (multiple page_size rcx) || not (multiple page_size rdx)) (Err Parameter)
+    (refuse m (unfit_pages a m) (Err Address)
+    (refuse m (unfit_vcpu a m) (Err Parameter)
+    (refuse m (leb (length m.sheet) i) (Err Request)
+    (refuse m (needs_page i && not (any_free m)) (Err OneMorePage)
+    (record { answer = Ok Success; after = created a i m })))))
 
 -- "3 Delete. .. EFER bit 12 in its VMSA page cleared"
 unfoldable pub clear_svme : ℕ → Lent → Lent
@@ -131,9 +131,9 @@ unfoldable pub delete : ℕ → ℕ → Lent → Answered Code Lent
 delete caller rcx m =
     let i : ℕ = named_by (page_of rcx) m in
     let vmpl : ℕ = (vcpu m caller).vmpl in
-    refuse m (not (multiple page_size rcx) || leb (length m.sheet) i || eqb i 0 || ltb (vcpu m i).vmpl vmpl) Parameter
-    (refuse m (not (eqb i caller) && eqb (vcpu m i).running 1) InUse
-    (record { answer = Success; after = deleted vmpl i m }))
+    refuse m (not (multiple page_size rcx) || leb (length m.sheet) i || eqb i 0 || ltb (vcpu m i).vmpl vmpl) (Err Parameter)
+    (refuse m (not (eqb i caller) && eqb (vcpu m i).running 1) (Err InUse)
+    (record { answer = Ok Success; after = deleted vmpl i m }))
 
 -- "5 Withdraw. .. As many free pool pages as fit below the 4,096 boundary, lowest first, rising"
 unfoldable pub withdrawn_pages : ℕ → Lent → List ℕ
@@ -160,9 +160,9 @@ withdrawn vmpl rcx m =
 unfoldable pub withdraw : ℕ → ℕ → Lent → Answered Code Lent
 withdraw caller rcx m =
     let vmpl : ℕ = (vcpu m caller).vmpl in
-    refuse m (not (multiple 8 rcx) || eqb (offset_of rcx) 0xFF8) Parameter
-    (refuse m (bad_list_page vmpl rcx m) Address
-    (record { answer = Success; after = withdrawn vmpl rcx m }))
+    refuse m (not (multiple 8 rcx) || eqb (offset_of rcx) 0xFF8) (Err Parameter)
+    (refuse m (bad_list_page vmpl rcx m) (Err Address)
+    (record { answer = Ok Success; after = withdrawn vmpl rcx m }))
 
 -- "6 Query. RCX becomes 0x0000000100000001 if it was 1, else 0. Success": RCX after it
 unfoldable pub query : ℕ → ℕ
@@ -172,10 +172,10 @@ query rcx = cond (eqb rcx 1) 0x0000000100000001 0
 -- PARAMETER; else REQUEST": the code, and RCX after it
 unfoldable pub configure : ℕ → Answered Code ℕ
 configure rcx =
-    refuse rcx (not (eqb (bits 11 5 rcx) 0) || not (bit 1 rcx) && not (eqb (bits 63 12 rcx) 0)) Parameter
-    (record { answer = Request; after = rcx })
+    refuse rcx (not (eqb (bits 11 5 rcx) 0) || not (bit 1 rcx) && not (eqb (bits 63 12 rcx) 0)) (Err Parameter)
+    (record { answer = Err Request; after = rcx })
 
 unfoldable pub vtom : ℕ → Answered Code ℕ
 vtom rcx =
-    refuse rcx (bit 0 rcx && not (eqb rcx 1)) Parameter
-    (cond (eqb rcx 1) (record { answer = Success; after = 0 }) (configure rcx))
+    refuse rcx (bit 0 rcx && not (eqb rcx 1)) (Err Parameter)
+    (cond (eqb rcx 1) (record { answer = Ok Success; after = 0 }) (configure rcx))

@@ -1,9 +1,9 @@
 -- "A host written in Rust or C calls the core with numbers and byte buffers only": the definitions that public promises cite. Each tests
 -- the sizes of what it is lent, gives everything back unchanged where one is wrong, and else hands over to the definition on pages.
-use Rattle.std.specs.Prelude.{ℕ, zero, suc, ◌*◌, ◌/◌, Bool, not, ◌&&◌, List, [], ◌∷◌, ◌++◌, eqb, length, take, drop}
+use Rattle.std.specs.Prelude.{ℕ, zero, suc, ◌*◌, ◌/◌, Bool, not, ◌&&◌, List, [], ◌∷◌, ◌++◌, eqb, length, take, drop, Err}
 use Rattle.rules.specs.Words.{page_size, least_pages}
 use Rattle.rules.specs.Words.{most_pages, records, record_size, registers_size, between, little, number}
-use Rattle.rules.specs.Answers.{Registers, Plan, Outcome, BadMachine, Launched, WrongSize, Verdict, Refused, Answered, refuse}
+use Rattle.rules.specs.Answers.{Registers, Plan, Outcome, BadMachine, Launched, WrongSize, Verdict, refusal, Answered, refuse}
 use Rattle.rules.specs.Machine.{Lent, Machine, machine_of}
 use Rattle.rules.specs.Launch.{launch}
 use Rattle.rules.specs.Steps.{store, mark}
@@ -58,7 +58,7 @@ sound_bytes b = well_sized b && sound (parted b)
 unfoldable pub launch_bytes : ℕ → Plan → Buffers → Answered Launched Buffers
 launch_bytes n plan b =
     let l : Answered Launched Machine = launch plan (machine_of (parted b)) in
-    refuse b (not (well_sized b && eqb n (length b.table))) WrongSize
+    refuse b (not (well_sized b && eqb n (length b.table))) (Err WrongSize)
     (record { answer = l.answer; after = joined l.after.lent })
 
 -- a store is lent the table and changes memory, a mark changes the sheet: "Otherwise, a wrong size included, both are refused without
@@ -66,12 +66,12 @@ launch_bytes n plan b =
 unfoldable pub store_bytes : ℕ → ℕ → ℕ → List ℕ → List ℕ → List ℕ → Answered Verdict (List ℕ)
 store_bytes c p offset bytes table memory =
     let s : Answered Verdict Lent = store c p offset bytes (parted (buffers memory table [])) in
-    refuse memory (not (memory_sized table memory)) Refused (record { answer = s.answer; after = join s.after.memory })
+    refuse memory (not (memory_sized table memory)) (Err refusal) (record { answer = s.answer; after = join s.after.memory })
 
 unfoldable pub mark_bytes : ℕ → ℕ → List ℕ → Answered Verdict (List ℕ)
 mark_bytes i value sheet =
     let s : Answered Verdict Lent = mark i value (parted (buffers [] [] sheet)) in
-    refuse sheet (not (sheet_sized sheet)) Refused (record { answer = s.answer; after = join s.after.sheet })
+    refuse sheet (not (sheet_sized sheet)) (Err refusal) (record { answer = s.answer; after = join s.after.sheet })
 
 -- the call, with the registers as one record
 unfoldable pub call_bytes : ℕ → Posed Registers Buffers → Answered Outcome (Posed Registers Buffers)

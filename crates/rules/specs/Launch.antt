@@ -1,8 +1,8 @@
 -- "Launch."
-use Rattle.std.specs.Prelude.{ℕ, ◌+◌, ◌-◌, Bool, cond, not, ◌&&◌, ◌||◌, List, [], ◌∷◌, map, leb, ltb, eqb, replicate}
+use Rattle.std.specs.Prelude.{ℕ, ◌+◌, ◌-◌, Bool, cond, not, ◌&&◌, ◌||◌, List, [], ◌∷◌, map, leb, ltb, eqb, replicate, Ok, Err}
 use Rattle.rules.specs.Words.{records, record_size}
 use Rattle.rules.specs.Words.{between, bit, range}
-use Rattle.rules.specs.Answers.{Plan, Launched, Made, OutOfRange, AreasMeet, UnfitVmsa, Answered, refuse}
+use Rattle.rules.specs.Answers.{Plan, Launched, OutOfRange, AreasMeet, UnfitVmsa, Answered, refuse}
 use Rattle.rules.specs.Machine.{Lent, Machine, machine_of, N, page_at, write, zeros, laid_out, vmsa_vmpl, vmsa_features, efer}
 
 unfoldable pub in_monitor : Plan → ℕ → Bool
@@ -61,7 +61,7 @@ made plan m =
 -- "Lowest number wins; unless 0, nothing changes." Answer 1, a size wrong, is given by Flat
 unfoldable pub launch : Plan → Machine → Answered Launched Machine
 launch plan m =
-    refuse m (out_of_range plan (N m.lent)) OutOfRange
-    (refuse m (areas_meet plan) AreasMeet
-    (refuse m (unfit_vmsa (page_at m.lent plan.vmsa)) UnfitVmsa
-    (record { answer = Made; after = made plan m.lent })))
+    refuse m (out_of_range plan (N m.lent)) (Err OutOfRange)
+    (refuse m (areas_meet plan) (Err AreasMeet)
+    (refuse m (unfit_vmsa (page_at m.lent plan.vmsa)) (Err UnfitVmsa)
+    (record { answer = Ok tt; after = made plan m.lent })))

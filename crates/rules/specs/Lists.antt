@@ -1,8 +1,8 @@
 -- "1 Pvalidate, 4 Deposit", and the list page that Withdraw shares with them.
-use Rattle.std.specs.Prelude.{ℕ, zero, suc, ◌+◌, ◌-◌, ◌*◌, min, Bool, cond, not, ◌&&◌, ◌||◌, List, leb, ltb, eqb}
+use Rattle.std.specs.Prelude.{ℕ, zero, suc, ◌+◌, ◌-◌, ◌*◌, min, Bool, cond, not, ◌&&◌, ◌||◌, List, leb, ltb, eqb, Result, Ok, Err}
 use Rattle.rules.specs.Words.{page_size, large, multiple}
 use Rattle.rules.specs.Words.{bits, bit, little, number, range, every, each}
-use Rattle.rules.specs.Answers.{Code, Success, Incomplete, Address, Parameter, SizeMismatch, NoChange, Entry, Reads, Unread, ListCall}
+use Rattle.rules.specs.Answers.{Code, Success, Incomplete, Refusal, Address, Parameter, SizeMismatch, NoChange, Entry, reads, ListCall}
 use Rattle.rules.specs.Answers.{Pvalidate, Deposit, Wish, Invalid, Valid, Pool, Answered, refuse}
 use Rattle.rules.specs.Machine.{Lent, ◌▷◌, below, page_of, offset_of, page_at, write, fill, plain, calling_area, pool_free, valid, grant}
 use Rattle.rules.specs.Machine.{revoke, own, make_valid, make_invalid, table_byte, put, owned_by, usable, vcpu}
@@ -63,21 +63,21 @@ coverable vmpl rcx m p = below m p && owned_by plain m p && not (eqb p (page_of 
 
 -- "bit 2 is the wished validity, bit 3 ignores "no change". Covered pages not all of equal validity: 0x80001006. Already as wished and
 -- bit 3 clear: 0x80001010"; "Deposit: a covered page not valid: ADDRESS"
-unfoldable pub read_covered : ListCall → ℕ → ℕ → Lent → Entry
+unfoldable pub read_covered : ListCall → ℕ → ℕ → Lent → Result Entry Refusal
 read_covered Pvalidate vmpl e m =
     let valid_all : Bool = every (λ p. valid (table_byte m p)) (covered e) in
     let valid_none : Bool = every (λ p. not (valid (table_byte m p))) (covered e) in
-    cond (not valid_all && not valid_none) (Unread SizeMismatch)
-    (cond (cond (bit 2 e) valid_all valid_none && not (bit 3 e)) (Unread NoChange)
-    (Reads (entry_first e) (entry_pages e) (cond (bit 2 e) Valid Invalid)))
+    cond (not valid_all && not valid_none) (Err SizeMismatch)
+    (cond (cond (bit 2 e) valid_all valid_none && not (bit 3 e)) (Err NoChange)
+    (reads (entry_first e) (entry_pages e) (cond (bit 2 e) Valid Invalid)))
 read_covered Deposit vmpl e m =
-    cond (not (every (usable vmpl m) (covered e))) (Unread Address) (Reads (entry_first e) (entry_pages e) Pool)
+    cond (not (every (usable vmpl m) (covered e))) (Err Address) (reads (entry_first e) (entry_pages e) Pool)
 
 -- "An entry either reads cleanly into its range and wishes or is refused on the spot"
-unfoldable pub read_entry : ListCall → ℕ → ℕ → ℕ → Lent → Entry
+unfoldable pub read_entry : ListCall → ℕ → ℕ → ℕ → Lent → Result Entry Refusal
 read_entry call vmpl rcx e m =
-    cond (malformed call e) (Unread Parameter)
-    (cond (not (every (coverable vmpl rcx m) (covered e))) (Unread Address)
+    cond (malformed call e) (Err Parameter)
+    (cond (not (every (coverable vmpl rcx m) (covered e))) (Err Address)
     (read_covered call vmpl e m))
 
 -- "wish 0: revoke, make invalid. Wish 1: make valid, .. grant the caller's VMPL, also when bit 3 excused no change"; "Deposit: .. revoke;
@@ -101,13 +101,13 @@ unfoldable pub carry_out_all : Wish → ℕ → ℕ → ℕ → Lent → Lent
 carry_out_all wish vmpl first pages m = each (carry_out wish vmpl) (range first pages) m
 
 -- entry k carried out, and the run goes on; or refused: "its index is then stored, earlier entries stand"
-unfoldable pub after_entry : Entry → ℕ → ℕ → ℕ → (Lent → Answered Code Lent) → Lent → Answered Code Lent
-after_entry (Reads first pages wish) caller rcx k go_on m = go_on (carry_out_all wish (vcpu m caller).vmpl first pages m)
-after_entry (Unread code) caller rcx k go_on m = record { answer = code; after = store_index k rcx m }
+unfoldable pub after_entry : Result Entry Refusal → ℕ → ℕ → ℕ → (Lent → Answered Code Lent) → Lent → Answered Code Lent
+after_entry (Ok entry) caller rcx k go_on m = go_on (carry_out_all entry.wish (vcpu m caller).vmpl entry.first entry.count m)
+after_entry (Err why) caller rcx k go_on m = record { answer = Err why; after = store_index k rcx m }
 
 -- `todo` entries from index k on. "If all is well the new index is stored; the code is incomplete if entries remain, else success"
 unfoldable pub run : ListCall → ℕ → ℕ → ℕ → ℕ → Lent → Answered Code Lent
-run call caller rcx zero k m = record { answer = cond (ltb k (list_count rcx m)) Incomplete Success; after = store_index k rcx m }
+run call caller rcx zero k m = record { answer = Ok (cond (ltb k (list_count rcx m)) Incomplete Success); after = store_index k rcx m }
 run call caller rcx (suc todo) k m =
     after_entry (read_entry call (vcpu m caller).vmpl rcx (list_entry k rcx m) m) caller rcx k (run call caller rcx todo (suc k)) m
 
@@ -118,8 +118,8 @@ run_within budget call caller rcx m = run call caller rcx (min budget (list_coun
 -- the head's checks in order; "Up to here the list is untouched"; then the run
 unfoldable pub list_call : ℕ → ListCall → ℕ → ℕ → Lent → Answered Code Lent
 list_call budget call caller rcx m =
-    refuse m (not (multiple 8 rcx)) Parameter
-    (refuse m (bad_list_page (vcpu m caller).vmpl rcx m) Address
-    (refuse m (bad_count rcx m) Parameter
-    (refuse m (bad_next rcx m) Parameter
+    refuse m (not (multiple 8 rcx)) (Err Parameter)
+    (refuse m (bad_list_page (vcpu m caller).vmpl rcx m) (Err Address)
+    (refuse m (bad_count rcx m) (Err Parameter)
+    (refuse m (bad_next rcx m) (Err Parameter)
     (run_within budget call caller rcx m))))

@@ -1,5 +1,6 @@
 // What a reader must believe, first half: the types that cross crates. The second half, the rule sheet and the requests that have landed as definitions, is in specs/.
-// Each answer is an enum of its own; specs/Answers.antt gives the paper's number for each of its cases, specs/Discovery.antt for those of `Located`.
+// What may be refused answers a `Result` whose error says why. A case has the paper's number as its own; specs/Answers.antt gives the numbers of whole answers,
+// specs/Discovery.antt those of the discovery fields.
 // There is no code here, and nothing is assumed.
 #![tactic(auto)]
 
@@ -14,8 +15,8 @@ pub struct Registers {
     pub reason: u64,
 }
 
-// A record of the vCPU sheet: its fields in their order.
-#[derive(Clone, Copy)]
+// A record of the vCPU sheet: its fields in their order. The default is a record of zeros.
+#[derive(Clone, Copy, Default)]
 pub struct Vcpu {
     pub live: u8,
     pub vmpl: u8,
@@ -41,47 +42,51 @@ pub struct Plan {
 }
 
 // What a call comes back with.
-#[derive(Clone, Copy)]
+#[derive(Clone, Copy, PartialEq, Eq)]
 pub enum Outcome {
-    Handled,
-    NoCall,
-    Gone,
-    BadMachine,
+    Handled = 0,
+    NoCall = 1,
+    Gone = 2,
+    BadMachine = 3,
+}
+
+// How far a call came that was not refused.
+#[derive(Clone, Copy, PartialEq, Eq)]
+pub enum Progress {
+    Success = 0,
+    Incomplete = 0x80000000,
+}
+
+// Why a call that was handled is refused.
+#[derive(Clone, Copy, PartialEq, Eq)]
+pub enum Refusal {
+    OneMorePage = 0x40000001,
+    UnknownProtocol = 0x80000001,
+    UnknownCall = 0x80000002,
+    Address = 0x80000003,
+    BadPending = 0x80000004,
+    Parameter = 0x80000005,
+    Request = 0x80000006,
+    InUse = 0x80001003,
+    SizeMismatch = 0x80001006,
+    NoChange = 0x80001010,
 }
 
 // The code of a call that was handled.
-#[derive(Clone, Copy)]
-pub enum Code {
-    Success,
-    OneMorePage,
-    Incomplete,
-    UnknownProtocol,
-    UnknownCall,
-    Address,
-    BadPending,
-    Parameter,
-    Request,
-    InUse,
-    SizeMismatch,
-    NoChange,
+pub type Code = Result<Progress, Refusal>;
+
+// Why a launch is refused.
+#[derive(Clone, Copy, PartialEq, Eq)]
+pub enum LaunchError {
+    WrongSize = 1,
+    OutOfRange = 2,
+    AreasMeet = 3,
+    UnfitVmsa = 4,
 }
 
-// What launch answers.
-#[derive(Clone, Copy)]
-pub enum Launched {
-    Made,
-    WrongSize,
-    OutOfRange,
-    AreasMeet,
-    UnfitVmsa,
-}
-
-// What a store or a mark answers.
-#[derive(Clone, Copy)]
-pub enum Verdict {
-    Done,
-    Refused,
-}
+// A store or a mark that is refused. There is one number for all reasons.
+#[derive(Clone, Copy, PartialEq, Eq)]
+pub struct Refused;
 
 // The two calls that work through a list of entries.
 #[derive(Clone, Copy)]
@@ -98,15 +103,12 @@ pub enum Wish {
     Pool,
 }
 
-// An entry either reads cleanly into its range and wish, or is refused with a code.
+// An entry that reads cleanly: its range and its wish. One that does not is refused with a code.
 #[derive(Clone, Copy)]
-pub enum Entry {
-    Reads {
-        first: usize,
-        count: usize,
-        wish: Wish,
-    },
-    Unread(Code),
+pub struct Entry {
+    pub first: usize,
+    pub count: usize,
+    pub wish: Wish,
 }
 
 // The discovery fields of the secrets page: SVSM_BASE, SVSM_SIZE, SVSM_CAA, SVSM_MAX_VERSION and SVSM_GUEST_VMPL.
@@ -119,15 +121,14 @@ pub struct Discovery {
     pub vmpl: u8,
 }
 
-// What the writer and the reader of the discovery fields answer.
-#[derive(Clone, Copy)]
-pub enum Located {
-    Told,
-    UnalignedBase,
-    UnalignedSize,
-    UnalignedArea,
-    PastEnd,
-    AreaInside,
-    NoMonitor,
-    WrongLength,
+// Why the writer or the reader of the discovery fields refuses.
+#[derive(Clone, Copy, PartialEq, Eq)]
+pub enum DiscoveryError {
+    UnalignedBase = 1,
+    UnalignedSize = 2,
+    UnalignedArea = 3,
+    PastEnd = 4,
+    AreaInside = 5,
+    NoMonitor = 6,
+    WrongLength = 7,
 }

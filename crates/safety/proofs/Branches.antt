@@ -5,12 +5,13 @@ use Prim.Native.Nat.{ℕ, suc, ◌≤◌, zero-le}
 use native.Mathlib.Omega.{arith}
 use lib.Dec.{eqb}
 use borrow.Author.Tests.{eqb-true, eqb-false, not-true, not-false}
+use Rattle.std.specs.Prelude.{Ok, Err}
 use Rattle.rules.specs.declared.Registers.{Registers}
 use Rattle.rules.specs.declared.Outcome.{Outcome}
-use Rattle.rules.specs.declared.Code.{Code}
-use Rattle.rules.specs.declared.Code.TheVariants.{Success, UnknownProtocol, UnknownCall, BadPending}
+use Rattle.rules.specs.declared.Progress.TheVariants.{Success}
+use Rattle.rules.specs.declared.Refusal.TheVariants.{UnknownProtocol, UnknownCall, BadPending}
 use Rattle.rules.specs.declared.ListCall.TheVariants.{Pvalidate, Deposit}
-use Rattle.rules.specs.Answers.{Answered, refuse, outcome_number}
+use Rattle.rules.specs.Answers.{Code, Answered, refuse, outcome_number}
 use Rattle.rules.specs.Words.{entries_a_call}
 use Rattle.rules.specs.Machine.{Machine}
 use Rattle.rules.specs.Lists.{list_call}
@@ -52,17 +53,17 @@ pub record Asks (n : ℕ) (g : Registers) : Type 0 where
 
 -- what a call is handled as: refused at once, or one of the eight, or unknown; each with the number that RAX asked for
 pub record Handlings (caller : ℕ) (s : Posed Registers Machine) (P : Answered Code (Posed Registers Machine) → Type 0) : Type 0 where
-  pub bad_pending : P (record { answer = BadPending; after = s })
-  pub unknown_protocol : eqb (protocol s.registers) 0 ≡ false → P (record { answer = UnknownProtocol; after = s })
+  pub bad_pending : P (record { answer = Err BadPending; after = s })
+  pub unknown_protocol : eqb (protocol s.registers) 0 ≡ false → P (record { answer = Err UnknownProtocol; after = s })
   pub remaps : Asks 0 s.registers → P (on_lent (remap caller s.registers.rcx s.machine.lent) s)
   pub validates : Asks 1 s.registers → P (on_lent (list_call entries_a_call Pvalidate caller s.registers.rcx s.machine.lent) s)
   pub creates : Asks 2 s.registers → P (on_lent (create caller s.registers.rcx s.registers.rdx s.registers.r8 s.machine.lent) s)
   pub deletes : Asks 3 s.registers → P (on_lent (delete caller s.registers.rcx s.machine.lent) s)
   pub deposits : Asks 4 s.registers → P (on_lent (list_call entries_a_call Deposit caller s.registers.rcx s.machine.lent) s)
   pub withdraws : Asks 5 s.registers → P (on_lent (withdraw caller s.registers.rcx s.machine.lent) s)
-  pub queries : Asks 6 s.registers → P (on_rcx (record { answer = Success; after = query s.registers.rcx }) s)
+  pub queries : Asks 6 s.registers → P (on_rcx (record { answer = Ok Success; after = query s.registers.rcx }) s)
   pub configures : Asks 7 s.registers → P (on_rcx (vtom s.registers.rcx) s)
-  pub unknown_call : 8 ≤ call_number s.registers → P (record { answer = UnknownCall; after = s })
+  pub unknown_call : 8 ≤ call_number s.registers → P (record { answer = Err UnknownCall; after = s })
 
 module _ (caller : ℕ) (s : Posed Registers Machine) (P : Answered Code (Posed Registers Machine) → Type 0) (h : Handlings caller s P) where
   dispatched : protocol s.registers ≡ 0 → P (dispatch caller s)

@@ -9,15 +9,14 @@ use native.Mathlib.Nat.{zero-add}
 use lib.Dec.{leb, ltb, eqb}
 use lib.ListN.{length, get_or}
 use borrow.Author.Tests.{eqb-true, eqb-false, ltb-true, ltb-false, leb-true, leb-false, ne_eqb, not-true, not-false}
-use Rattle.rules.specs.declared.Code.{Code}
-use Rattle.rules.specs.declared.Code.TheVariants.{Success}
-use Rattle.rules.specs.declared.Launched.{Launched}
-use Rattle.rules.specs.declared.Launched.TheVariants.{Made, OutOfRange, AreasMeet, UnfitVmsa}
+use Rattle.std.specs.Prelude.{Ok, Err}
+use Rattle.rules.specs.declared.Progress.TheVariants.{Success}
+use Rattle.rules.specs.declared.LaunchError.TheVariants.{OutOfRange, AreasMeet, UnfitVmsa}
 use Rattle.rules.specs.declared.ListCall.{ListCall}
 use Rattle.rules.specs.declared.Plan.{Plan}
-use Rattle.rules.specs.Answers.{Answered, refuse, launched_number}
+use Rattle.rules.specs.Answers.{Code, Launched, Answered, refuse, launched_number}
 use Rattle.rules.specs.Words.{page_size, records, between, bit, bits, multiple, every, exists, places}
-use Rattle.rules.specs.Machine.{Lent, Machine, N, below, page_of, offset_of, page_at, owner, valid, table_byte, owned_by, usable}
+use Rattle.rules.specs.Machine.{Lent, Machine, N, page_of, offset_of, page_at, owner, valid, table_byte, owned_by, usable}
 use Rattle.rules.specs.Machine.{with_memory, write, grant, own, fields, is_live, needs_page, record_at, vcpu, startup, vmsa_vmpl, vmsa_features, efer}
 use Rattle.rules.specs.Launch.{out_of_range, areas_meet, unfit_vmsa, made, launch}
 use Rattle.rules.specs.Sound.{bad_record}
@@ -288,7 +287,7 @@ pub record DeleteFit (caller rcx i : ℕ) (m : Lent) : Type 0 where
   pub later : i ≡ 0 → ⊥
   pub live : is_live (record_at m i) ≡ true
   pub named : (vcpu m i).vmsa ≡ page_of rcx
-  pub done : (delete caller rcx m).answer ≡ Success
+  pub done : (delete caller rcx m).answer ≡ Ok Success
 
 module _ (caller rcx : ℕ) (m : Lent) where
   abbrev meant : ℕ
@@ -296,7 +295,7 @@ module _ (caller rcx : ℕ) (m : Lent) where
 
   -- whatever test of VMPLs stands beside the others
   delete_fit : (low : Bool) → (not (multiple page_size rcx) || leb (length m.sheet) meant || eqb meant 0 || low) ≡ false
-      → (delete caller rcx m).answer ≡ Success → DeleteFit caller rcx meant m
+      → (delete caller rcx m).answer ≡ Ok Success → DeleteFit caller rcx meant m
   unfolding vcpu record_at named_by
   delete_fit low e done =
       let test : List ℕ → Bool = λ r. is_live r && eqb (fields r).vmsa (page_of rcx) in
@@ -317,7 +316,7 @@ module _ (caller rcx : ℕ) (m : Lent) where
 -- ---- launch
 
 -- an answer with another number is not that it is made
-pub not_made : {A : Type 0} (l : Launched) → 0 < launched_number l → l ≡ Made → A
+pub not_made : {A : Type 0} (l : Launched) → 0 < launched_number l → l ≡ Ok tt → A
 unfolding launched_number
 not_made l h e = absurd (omega (arith, rw e at h))
 
@@ -329,13 +328,13 @@ pub record LaunchFit (plan : Plan) (m : Machine) : Type 0 where
   pub after : (launch plan m).after ≡ made plan m.lent
 
 -- launch
-pub launch_made : (plan : Plan) (m : Machine) → (launch plan m).answer ≡ Made → LaunchFit plan m
+pub launch_made : (plan : Plan) (m : Machine) → (launch plan m).answer ≡ Ok tt → LaunchFit plan m
 unfolding launch refuse launched_number
 launch_made plan m e =
     by_test (out_of_range plan (N m.lent))
-    (λ t. not_made OutOfRange (omega arith) (rw t at e))
+    (λ t. not_made (Err OutOfRange) (omega arith) (rw t at e))
     (λ t. by_test (areas_meet plan)
-    (λ u. not_made AreasMeet (omega arith) (rw (t, u) at e))
+    (λ u. not_made (Err AreasMeet) (omega arith) (rw (t, u) at e))
     (λ u. by_test (unfit_vmsa (page_at m.lent plan.vmsa))
-    (λ v. not_made UnfitVmsa (omega arith) (rw (t, u, v) at e))
+    (λ v. not_made (Err UnfitVmsa) (omega arith) (rw (t, u, v) at e))
     (λ v. record { within = t; apart = u; fit = v; after = rw (t, u, v) })))

@@ -1,18 +1,18 @@
 -- The entries of a list: what one that reads says of its pages, and that a run over the list keeps what each of its entries and the stored index keep.
-use mathlib.Core.Path.{◌≡◌, refl, ◌∙◌}
+use mathlib.Core.Path.{◌≡◌, refl, ◌∙◌, ap}
 use mathlib.Core.Bool.{Bool, true, false, cond, not, ◌&&◌, and-false, and-eq-true_iff}
 use Prim.Native.Nat.{ℕ, zero, suc, ◌+◌, ◌<◌, ◌≤◌}
 use native.Mathlib.Omega.{arith}
 use lib.Dec.{eqb, ltb}
 use borrow.Author.Tests.{eq-eqb, eqb-true, ltb-true}
-use Rattle.rules.specs.declared.Code.{Code}
+use Rattle.std.specs.Prelude.{Result, Ok, Err}
 use Rattle.rules.specs.declared.Entry.{Entry}
-use Rattle.rules.specs.declared.Entry.TheVariants.{Reads, Unread}
+use Rattle.rules.specs.declared.Refusal.{Refusal}
 use Rattle.rules.specs.declared.ListCall.{ListCall}
 use Rattle.rules.specs.declared.ListCall.TheVariants.{Pvalidate, Deposit}
 use Rattle.rules.specs.declared.Wish.{Wish}
 use Rattle.rules.specs.declared.Wish.TheVariants.{Invalid, Valid, Pool}
-use Rattle.rules.specs.Answers.{Answered}
+use Rattle.rules.specs.Answers.{Code, reads, Answered}
 use Rattle.rules.specs.Words.{bit, range, every}
 use Rattle.rules.specs.Machine.{Lent, N, below, page_of, page_at, with_memory, write, owner, valid, table_byte, owned_by, usable, record_at, vcpu}
 use Rattle.rules.specs.Lists.{in_list, list_count, list_entry, store_index, entry_first, entry_pages, covered, malformed, coverable}
@@ -26,8 +26,14 @@ use Rattle.safety.proofs.Elsewhere.{carry_elsewhere, each_elsewhere}
 -- ---- an entry that reads
 
 -- one that is refused does not
-pub unread : {A : Type 0} (code : Code) (first n : ℕ) (wish : Wish) → Unread code ≡ Reads first n wish → A
+pub unread : {A : Type 0} (code : Refusal) (first n : ℕ) (wish : Wish) → Err code ≡ reads first n wish → A
 unread code first n wish e = let z : ◌≡◌ {A = ℕ} 0 1 = cc in absurd (omega arith)
+
+-- what two that read alike tell is the same
+same_reading : (first n first' n' : ℕ) (wish wish' : Wish) → reads first n wish ≡ reads first' n' wish' → (first ≡ first') × (n ≡ n') × (wish ≡ wish')
+same_reading first n first' n' wish wish' e =
+    let same : ◌≡◌ {A = Entry} (record { first = first; count = n; wish = wish }) (record { first = first'; count = n'; wish = wish' }) = cc in
+    (ap (λ (x : Entry). x.first) same, ap (λ (x : Entry). x.count) same, ap (λ (x : Entry). x.wish) same)
 
 -- what it wishes
 unfoldable pub wish_of : ListCall → ℕ → Wish
@@ -63,8 +69,8 @@ pub record Read (call : ListCall) (vmpl rcx e first n : ℕ) (wish : Wish) (m : 
   pub passed : every (coverable vmpl rcx m) (range first n) ≡ true
   pub fit : (p : ℕ) → first ≤ p → p < first + n → (p < N m) × (fits wish (table_byte m p) ≡ true)
 
-module _ (call : ListCall) (vmpl rcx e first n : ℕ) (wish : Wish) (m : Lent) (h : read_entry call vmpl rcx e m ≡ Reads first n wish) where
-  passed_both : (every (coverable vmpl rcx m) (covered e) ≡ true) × (read_covered call vmpl e m ≡ Reads first n wish)
+module _ (call : ListCall) (vmpl rcx e first n : ℕ) (wish : Wish) (m : Lent) (h : read_entry call vmpl rcx e m ≡ reads first n wish) where
+  passed_both : (every (coverable vmpl rcx m) (covered e) ≡ true) × (read_covered call vmpl e m ≡ reads first n wish)
   unfolding read_entry
   passed_both =
       by_test (malformed call e)
@@ -74,7 +80,7 @@ module _ (call : ListCall) (vmpl rcx e first n : ℕ) (wish : Wish) (m : Lent) (
       (λ u. unread _ first n wish (rw u at (rw t at h))))
 
   -- it passed the tests of its form and of its pages
-  pub covered_read : read_covered call vmpl e m ≡ Reads first n wish
+  pub covered_read : read_covered call vmpl e m ≡ reads first n wish
   covered_read = passed_both.1
 
 -- Pvalidate wishes for no pool page
@@ -88,7 +94,7 @@ unfolding fits
 fits_pool vmpl m p e u = rw (e, (usable→ vmpl m p u).1)
 
 -- its range, its wish, and that each page of the range which is plain is fit for the wish
-range_read : (call : ListCall) (vmpl e first n : ℕ) (wish : Wish) (m : Lent) → read_covered call vmpl e m ≡ Reads first n wish
+range_read : (call : ListCall) (vmpl e first n : ℕ) (wish : Wish) (m : Lent) → read_covered call vmpl e m ≡ reads first n wish
     → (entry_first e ≡ first) × (entry_pages e ≡ n) × (wish_of call e ≡ wish)
     × ((p : ℕ) → first ≤ p → p < first + n → owner (table_byte m p) ≡ 0 → fits wish (table_byte m p) ≡ true)
 unfolding read_covered wish_of covered
@@ -100,26 +106,22 @@ range_read Pvalidate vmpl e first n wish m h =
     (λ t. by_test (cond (bit 2 e) all none && not (bit 3 e))
     (λ u. unread _ first n wish (rw u at (rw t at h)))
     (λ u.
-    let g : Reads (entry_first e) (entry_pages e) (cond (bit 2 e) Valid Invalid) ≡ Reads first n wish = rw u at (rw t at h) in
-    let wishes : cond (bit 2 e) Valid Invalid ≡ wish = cc in
-    (cc, cc, wishes, λ p l b o. rw (← wishes) (fits_validity (bit 2 e) (table_byte m p) o))))
+    let told = same_reading _ _ first n _ wish (rw u at (rw t at h)) in
+    (told.0, told.1, told.2, λ p l b o. rw (← told.2) (fits_validity (bit 2 e) (table_byte m p) o))))
 range_read Deposit vmpl e first n wish m h =
     let test = usable vmpl m in
     by_test (every test (range (entry_first e) (entry_pages e)))
     (λ t.
-    let g : Reads (entry_first e) (entry_pages e) Pool ≡ Reads first n wish = rw t at h in
-    let starts : entry_first e ≡ first = cc in
-    let many : entry_pages e ≡ n = cc in
-    let wishes : Pool ≡ wish = cc in (
-      starts,
-      many,
-      wishes,
-      λ p l b o. rw (← wishes) (fits_pool vmpl m p o (every_range→ test first n (rw (starts, many) at t) p l b)),
+    let told = same_reading _ _ first n _ wish (rw t at h) in (
+      told.0,
+      told.1,
+      told.2,
+      λ p l b o. rw (← told.2) (fits_pool vmpl m p o (every_range→ test first n (rw (told.0, told.1) at t) p l b)),
     ))
     (λ t. unread _ first n wish (rw t at h))
 
 -- what an entry that reads has told
-pub entry_read : (call : ListCall) (vmpl rcx e first n : ℕ) (wish : Wish) (m : Lent) → read_entry call vmpl rcx e m ≡ Reads first n wish
+pub entry_read : (call : ListCall) (vmpl rcx e first n : ℕ) (wish : Wish) (m : Lent) → read_entry call vmpl rcx e m ≡ reads first n wish
     → Read call vmpl rcx e first n wish m
 unfolding covered
 entry_read call vmpl rcx e first n wish m h =
@@ -142,7 +144,7 @@ list_uncoverable : (vmpl rcx : ℕ) (m : Lent) → coverable vmpl rcx m (page_of
 unfolding coverable
 list_uncoverable vmpl rcx m = simp (eq-eqb (page_of rcx) (page_of rcx) refl, and-false)
 
-module _ (call : ListCall) (vmpl rcx e first n : ℕ) (wish : Wish) (m : Lent) (h : read_entry call vmpl rcx e m ≡ Reads first n wish) where
+module _ (call : ListCall) (vmpl rcx e first n : ℕ) (wish : Wish) (m : Lent) (h : read_entry call vmpl rcx e m ≡ reads first n wish) where
   -- the page is as it was
   pub list_kept : page_at (carry_out_all wish vmpl first n m) (page_of rcx) ≡ page_at m (page_of rcx)
   unfolding carry_out_all
@@ -176,12 +178,12 @@ pub record Keeps (call : ListCall) (caller rcx : ℕ) (P : Lent → Type 0) : Ty
       → P (carry_out_all wish (vcpu m caller).vmpl first n m)
 
 module _ (call : ListCall) (caller rcx : ℕ) (P : Lent → Type 0) (keeps : Keeps call caller rcx P) where
-  after_keeps : (k : ℕ) (go_on : Lent → Answered Code Lent) (m : Lent) (e : ℕ) (x : Entry) → read_entry call (vcpu m caller).vmpl rcx e m ≡ x
+  after_keeps : (k : ℕ) (go_on : Lent → Answered Code Lent) (m : Lent) (e : ℕ) (x : Result Entry Refusal) → read_entry call (vcpu m caller).vmpl rcx e m ≡ x
       → ((now : Lent) → P now → P (go_on now).after) → P m → P (after_entry x caller rcx k go_on m).after
   unfolding after_entry
-  after_keeps k go_on m e (Reads first n wish) is goes h =
-      goes _ (keeps.carried e first n wish m h (entry_read call (vcpu m caller).vmpl rcx e first n wish m is))
-  after_keeps k go_on m e (Unread code) is goes h = keeps.stored _ m h
+  after_keeps k go_on m e (Ok entry) is goes h =
+      goes _ (keeps.carried e entry.first entry.count entry.wish m h (entry_read call (vcpu m caller).vmpl rcx e entry.first entry.count entry.wish m is))
+  after_keeps k go_on m e (Err code) is goes h = keeps.stored _ m h
 
   -- a run of any number of entries keeps it
   pub run_keeps : (todo k : ℕ) (m : Lent) → P m → P (run call caller rcx todo k m).after

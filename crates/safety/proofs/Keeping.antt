@@ -3,10 +3,9 @@ use mathlib.Core.List.{List, [], ◌∷◌}
 use Prim.Native.Nat.{ℕ}
 use Rattle.rules.specs.Words.{entries_a_call}
 use Rattle.rules.specs.declared.Registers.{Registers}
-use Rattle.rules.specs.declared.Code.{Code}
 use Rattle.rules.specs.declared.ListCall.{ListCall}
 use Rattle.rules.specs.declared.ListCall.TheVariants.{Pvalidate, Deposit}
-use Rattle.rules.specs.Answers.{Answered, refuse}
+use Rattle.rules.specs.Answers.{Code, Answered, refuse}
 use Rattle.rules.specs.Machine.{Lent, Machine, with_lent, write, is_live, record_at}
 use Rattle.rules.specs.Steps.{store, mark}
 use Rattle.rules.specs.Lists.{list_call}

@@ -3,16 +3,13 @@ use mathlib.Core.Path.{◌≡◌, refl, sym, ◌∙◌, ap}
 use mathlib.Core.Bool.{cond}
 use Prim.Native.Nat.{ℕ}
 use lib.Dec.{eqb}
+use Rattle.std.specs.Prelude.{Ok, Err}
 use Rattle.rules.specs.declared.Outcome.{Outcome}
 use Rattle.rules.specs.declared.Outcome.TheVariants.{Handled, NoCall, Gone, BadMachine}
-use Rattle.rules.specs.declared.Code.{Code}
-use Rattle.rules.specs.declared.Code.TheVariants.{Success, OneMorePage, Incomplete, UnknownProtocol, UnknownCall, Address, BadPending, Parameter}
-use Rattle.rules.specs.declared.Code.TheVariants.{Request, InUse, SizeMismatch, NoChange}
-use Rattle.rules.specs.declared.Launched.{Launched}
-use Rattle.rules.specs.declared.Launched.TheVariants.{Made, WrongSize, OutOfRange, AreasMeet, UnfitVmsa}
-use Rattle.rules.specs.declared.Verdict.{Verdict}
-use Rattle.rules.specs.declared.Verdict.TheVariants.{Done, Refused}
-use Rattle.rules.specs.Answers.{outcome_number, code_number, launched_number, verdict_number}
+use Rattle.rules.specs.declared.Progress.TheVariants.{Success, Incomplete}
+use Rattle.rules.specs.declared.Refusal.TheVariants.{OneMorePage, UnknownProtocol, UnknownCall, Address, BadPending, Parameter, Request, InUse, SizeMismatch, NoChange}
+use Rattle.rules.specs.declared.LaunchError.TheVariants.{WrongSize, OutOfRange, AreasMeet, UnfitVmsa}
+use Rattle.rules.specs.Answers.{Code, Launched, Verdict, refusal, outcome_number, code_number, launched_number, verdict_number}
 use Rattle.safety.specs.Determined.{ToldApart, AnswersToldApart}
 
 -- a number from which the case can be found again tells it apart
@@ -32,49 +29,49 @@ outcome_found BadMachine = refl
 
 find_code : ℕ → Code
 find_code n =
-    cond (eqb n 0) Success
-    (cond (eqb n 0x40000001) OneMorePage
-    (cond (eqb n 0x80000000) Incomplete
-    (cond (eqb n 0x80000001) UnknownProtocol
-    (cond (eqb n 0x80000002) UnknownCall
-    (cond (eqb n 0x80000003) Address
-    (cond (eqb n 0x80000004) BadPending
-    (cond (eqb n 0x80000005) Parameter
-    (cond (eqb n 0x80000006) Request (cond (eqb n 0x80001003) InUse (cond (eqb n 0x80001006) SizeMismatch NoChange))))))))))
+    cond (eqb n 0) (Ok Success)
+    (cond (eqb n 0x40000001) (Err OneMorePage)
+    (cond (eqb n 0x80000000) (Ok Incomplete)
+    (cond (eqb n 0x80000001) (Err UnknownProtocol)
+    (cond (eqb n 0x80000002) (Err UnknownCall)
+    (cond (eqb n 0x80000003) (Err Address)
+    (cond (eqb n 0x80000004) (Err BadPending)
+    (cond (eqb n 0x80000005) (Err Parameter)
+    (cond (eqb n 0x80000006) (Err Request) (cond (eqb n 0x80001003) (Err InUse) (cond (eqb n 0x80001006) (Err SizeMismatch) (Err NoChange)))))))))))
 
 code_found : (c : Code) → find_code (code_number c) ≡ c
 unfolding find_code code_number
-code_found Success = refl
-code_found OneMorePage = refl
-code_found Incomplete = refl
-code_found UnknownProtocol = refl
-code_found UnknownCall = refl
-code_found Address = refl
-code_found BadPending = refl
-code_found Parameter = refl
-code_found Request = refl
-code_found InUse = refl
-code_found SizeMismatch = refl
-code_found NoChange = refl
+code_found (Ok Success) = refl
+code_found (Err OneMorePage) = refl
+code_found (Ok Incomplete) = refl
+code_found (Err UnknownProtocol) = refl
+code_found (Err UnknownCall) = refl
+code_found (Err Address) = refl
+code_found (Err BadPending) = refl
+code_found (Err Parameter) = refl
+code_found (Err Request) = refl
+code_found (Err InUse) = refl
+code_found (Err SizeMismatch) = refl
+code_found (Err NoChange) = refl
 
 find_launched : ℕ → Launched
-find_launched n = cond (eqb n 0) Made (cond (eqb n 1) WrongSize (cond (eqb n 2) OutOfRange (cond (eqb n 3) AreasMeet UnfitVmsa)))
+find_launched n = cond (eqb n 0) (Ok tt) (cond (eqb n 1) (Err WrongSize) (cond (eqb n 2) (Err OutOfRange) (cond (eqb n 3) (Err AreasMeet) (Err UnfitVmsa))))
 
 launched_found : (l : Launched) → find_launched (launched_number l) ≡ l
 unfolding find_launched launched_number
-launched_found Made = refl
-launched_found WrongSize = refl
-launched_found OutOfRange = refl
-launched_found AreasMeet = refl
-launched_found UnfitVmsa = refl
+launched_found (Ok made) = refl
+launched_found (Err WrongSize) = refl
+launched_found (Err OutOfRange) = refl
+launched_found (Err AreasMeet) = refl
+launched_found (Err UnfitVmsa) = refl
 
 find_verdict : ℕ → Verdict
-find_verdict n = cond (eqb n 0) Done Refused
+find_verdict n = cond (eqb n 0) (Ok tt) (Err refusal)
 
 verdict_found : (v : Verdict) → find_verdict (verdict_number v) ≡ v
 unfolding find_verdict verdict_number
-verdict_found Done = refl
-verdict_found Refused = refl
+verdict_found (Ok done) = refl
+verdict_found (Err why) = refl
 
 pub answers_told_apart : AnswersToldApart
 unfolding AnswersToldApart

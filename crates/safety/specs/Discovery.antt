@@ -4,7 +4,7 @@
 use Rattle.std.specs.Prelude.{◌≡◌, ◌⊎◌, List, ℕ, ◌+◌, ◌*◌, ◌%◌, ◌^◌, ◌<◌, ◌≤◌, length, get_or}
 use Rattle.rules.specs.Words.{number}
 use Rattle.rules.specs.declared.Plan.{Plan}
-use Rattle.rules.specs.Answers.{Answered, launched_number}
+use Rattle.rules.specs.Answers.{launched_number}
 use Rattle.rules.specs.Machine.{startup}
 use Rattle.rules.specs.Flat.{Buffers, parted, launch_bytes}
 use Rattle.rules.specs.Discovery.{located_number, announce, discover}

@@ -1,17 +1,15 @@
 -- What is proved of the definitions: demands 1 and 3. Demand 3 comes first, whole and about the bytes that a host holds; then its parts, on machines, each under its
 -- number; then what holds of every call, on machines and on bytes, sound or not. The words are in Terms. This file can be read without the proofs, which are
 -- in proofs/; proofs/Theorems.antt has one for each statement.
-use Rattle.std.specs.Prelude.{◌≡◌, ◌⊎◌, true, false, List, [], ◌∷◌, ℕ, suc, ◌+◌, ◌-◌, ◌<◌, ◌≤◌, length, get_or}
+use Rattle.std.specs.Prelude.{◌≡◌, ◌⊎◌, true, false, List, [], ◌∷◌, ℕ, suc, ◌+◌, ◌-◌, ◌<◌, ◌≤◌, length, get_or, Ok}
 use Rattle.rules.specs.Words.{records, records_without_pool, between, bit}
 use Rattle.rules.specs.declared.Registers.{Registers}
 use Rattle.rules.specs.declared.Plan.{Plan}
 use Rattle.rules.specs.declared.Outcome.TheVariants.{Handled, Gone}
-use Rattle.rules.specs.declared.Entry.TheVariants.{Reads}
 use Rattle.rules.specs.declared.ListCall.{ListCall}
 use Rattle.rules.specs.declared.ListCall.TheVariants.{Pvalidate}
 use Rattle.rules.specs.declared.Wish.{Wish}
-use Rattle.rules.specs.declared.Launched.TheVariants.{Made}
-use Rattle.rules.specs.Answers.{launched_number}
+use Rattle.rules.specs.Answers.{reads, launched_number}
 use Rattle.rules.specs.Machine.{Lent, Machine, N, page_of, page_at, owner, monitor, vmsa_area, permitted, valid, table_byte, is_live, record_at, vcpu}
 use Rattle.rules.specs.Launch.{launch}
 use Rattle.rules.specs.Sound.{table_sized, pages_sized, sound}
@@ -66,7 +64,7 @@ SoundMeans = (m : Lent) → (sound m ≡ true → SoundMachine m) × (SoundMachi
 -- 0. Launched: a successful launch, on any memory of right size, gives a sound machine
 unfoldable pub LaunchedSound : Type 0
 LaunchedSound =
-    (plan : Plan) (m : Machine) → table_sized m.lent ≡ true → pages_sized m.lent ≡ true → (launch plan m).answer ≡ Made
+    (plan : Plan) (m : Machine) → table_sized m.lent ≡ true → pages_sized m.lent ≡ true → (launch plan m).answer ≡ Ok tt
     → sound (launch plan m).after.lent ≡ true
 
 -- 1. Sound: after any run of calls, stores and marks, so after each step of it
@@ -107,7 +105,7 @@ RunCounted =
 
 unfoldable pub CountedFromLaunch : Type 0
 CountedFromLaunch =
-    (plan : Plan) (m : Machine) (ss : List Step) → table_sized m.lent ≡ true → pages_sized m.lent ≡ true → (launch plan m).answer ≡ Made
+    (plan : Plan) (m : Machine) (ss : List Step) → table_sized m.lent ≡ true → pages_sized m.lent ≡ true → (launch plan m).answer ≡ Ok tt
     → pool (run_steps ss (launch plan m).after).lent + over_run given_back ss (launch plan m).after ≡ over_run taken_in ss (launch plan m).after
 
 -- 5. At most: after any run, the pages in use of the pool are no more than the records that need one, twelve
@@ -205,7 +203,7 @@ PassedAndNoMore = OfEveryCall PassedLaw
 -- and of one entry with wish 1 and bit 3 clear: (a) if it is carried out, every covered page was invalid
 unfoldable pub ValidatedOnce : Type 0
 ValidatedOnce =
-    (vmpl rcx e first n : ℕ) (wish : Wish) (m : Lent) → bit 2 e ≡ true → bit 3 e ≡ false → read_entry Pvalidate vmpl rcx e m ≡ Reads first n wish
+    (vmpl rcx e first n : ℕ) (wish : Wish) (m : Lent) → bit 2 e ≡ true → bit 3 e ≡ false → read_entry Pvalidate vmpl rcx e m ≡ reads first n wish
     → covers_valid e m ≡ false
 
 -- (b) if it covers a valid page it is refused, and itself changes no table byte and no memory but the index
@@ -218,12 +216,12 @@ SecondValidationRefused =
 -- (c) any entry with wish 1 that is carried out, bit 3 or not, leaves its pages zero; and what "carried out" is in a run
 unfoldable pub ValidatedPagesZero : Type 0
 ValidatedPagesZero =
-    (vmpl rcx e first n : ℕ) (wish : Wish) (m : Lent) → bit 2 e ≡ true → read_entry Pvalidate vmpl rcx e m ≡ Reads first n wish
+    (vmpl rcx e first n : ℕ) (wish : Wish) (m : Lent) → bit 2 e ≡ true → read_entry Pvalidate vmpl rcx e m ≡ reads first n wish
     → (p k : ℕ) → covers e p ≡ true → get_or (page_at (carry_out_all wish vmpl first n m) p) k 0 ≡ 0
 
 unfoldable pub CarriedOut : Type 0
 CarriedOut =
-    (call : ListCall) (caller rcx todo k first n : ℕ) (wish : Wish) (m : Lent) → read_entry call (vcpu m caller).vmpl rcx (list_entry k rcx m) m ≡ Reads first n wish
+    (call : ListCall) (caller rcx todo k first n : ℕ) (wish : Wish) (m : Lent) → read_entry call (vcpu m caller).vmpl rcx (list_entry k rcx m) m ≡ reads first n wish
     → run call caller rcx (suc todo) k m ≡ run call caller rcx todo (suc k) (carry_out_all wish (vcpu m caller).vmpl first n m)
 
 -- 10. Confined: a call by VMPL c gives no page a permission above c, makes no vCPU of a VMPL below c, by its record or by its VMSA, and deletes none
@@ -260,7 +258,7 @@ run_bytes [] b = b
 run_bytes (s ∷ ss) b = run_bytes ss (step_bytes s b)
 
 unfoldable pub LaunchedOnBytes : Type 0
-LaunchedOnBytes = (n : ℕ) (plan : Plan) (b : Buffers) → (launch_bytes n plan b).answer ≡ Made → sound_bytes (launch_bytes n plan b).after ≡ true
+LaunchedOnBytes = (n : ℕ) (plan : Plan) (b : Buffers) → (launch_bytes n plan b).answer ≡ Ok tt → sound_bytes (launch_bytes n plan b).after ≡ true
 
 unfoldable pub RunsOnBytes : Type 0
 RunsOnBytes =

@@ -1,18 +1,18 @@
 -- The words of the statements: what became of a page, of the pool, of a call that is gone or refused, and what a host does with its bytes. Most of them say again,
 -- in numbers, what a rule says, so that a wrong rule breaks a statement and does not move it. Shared with the rules are the table byte's own words (owner, valid,
 -- permitted, own, grant), the places in a list, and in AtEntry the run and the entry reader.
-use Rattle.std.specs.Prelude.{◌≡◌, Bool, true, false, cond, not, ◌&&◌, ◌||◌, List, [], ◌∷◌, ℕ, zero, suc, ◌+◌, ◌-◌, ◌*◌, ◌/◌, ◌<◌, ◌≤◌, leb, ltb, eqb, get_or, set}
+use Rattle.std.specs.Prelude.{◌≡◌, Bool, true, false, cond, not, ◌&&◌, ◌||◌, List, [], ◌∷◌, ℕ, zero, suc, ◌+◌, ◌-◌, ◌*◌, ◌/◌, ◌<◌, ◌≤◌, leb, ltb, eqb, get_or, set, Ok, Err}
 use Rattle.rules.specs.Words.{page_size, most_pages, record_size, large, multiple, bits, bit, without_bit, little, number, range, every, exists, count}
 use Rattle.rules.specs.declared.Registers.{Registers}
 use Rattle.rules.specs.declared.Vcpu.{Vcpu}
 use Rattle.rules.specs.declared.Outcome.{Outcome}
 use Rattle.rules.specs.declared.Outcome.TheVariants.{Handled, NoCall, Gone, BadMachine}
-use Rattle.rules.specs.declared.Code.{Code}
-use Rattle.rules.specs.declared.Code.TheVariants.{Incomplete, Address, Parameter, SizeMismatch, NoChange}
-use Rattle.rules.specs.declared.Entry.TheVariants.{Unread}
+use Rattle.rules.specs.declared.Progress.TheVariants.{Incomplete}
+use Rattle.rules.specs.declared.Refusal.{Refusal}
+use Rattle.rules.specs.declared.Refusal.TheVariants.{Address, Parameter, SizeMismatch, NoChange}
 use Rattle.rules.specs.declared.ListCall.{ListCall}
 use Rattle.rules.specs.declared.ListCall.TheVariants.{Pvalidate, Deposit}
-use Rattle.rules.specs.Answers.{Answered, outcome_number, code_number, verdict_number}
+use Rattle.rules.specs.Answers.{Code, Answered, outcome_number, code_number, verdict_number}
 use Rattle.rules.specs.Steps.{store, mark}
 use Rattle.rules.specs.Machine.{Lent, Machine, ◌▷◌, N, below, page_of, page_at, written, write, zeros, owner, plain, pool_free, pool_in_use, valid, permitted}
 use Rattle.rules.specs.Machine.{grant, own, table_byte, owned_by, is_live, record_at, vcpu, startup, vmsa_vmpl}
@@ -182,10 +182,10 @@ pub record AtEntry (call : ListCall) (caller : ℕ) (g : Registers) (m : Lent) (
   pub within : entry < list_next g.rcx m + 32
   pub below : entry < list_count g.rcx m
   pub before : Lent
-  pub earlier : run_within (entry - list_next g.rcx m) call caller g.rcx m ≡ record { answer = Incomplete; after = before }
-  pub code : Code
-  pub unread : read_entry call (vcpu before caller).vmpl g.rcx (list_entry entry g.rcx m) before ≡ Unread code
-  pub told : after.registers.rax ≡ code_number code
+  pub earlier : run_within (entry - list_next g.rcx m) call caller g.rcx m ≡ record { answer = Ok Incomplete; after = before }
+  pub code : Refusal
+  pub unread : read_entry call (vcpu before caller).vmpl g.rcx (list_entry entry g.rcx m) before ≡ Err code
+  pub told : after.registers.rax ≡ code_number (Err code)
   pub reached : after.machine.lent ≡ last_writes caller before
 
 pub record LeftByRefusal (caller : ℕ) (g : Registers) (m : Lent) (after : Posed Registers Machine) : Type 0 where
@@ -214,9 +214,9 @@ second_code rcx e m =
     let ill_formed : Bool =
     ltb 1 (bits 1 0 e) || not (eqb (bits 11 4 e) 0) || eqb (bits 1 0 e) 1 && not (multiple large (bits 63 12 e)) in
     let coverable : ℕ → Bool = λ p. below m p && owned_by plain m p && not (eqb p (page_of rcx)) in
-    cond ill_formed Parameter
-    (cond (not (every coverable (covered e))) Address
-    (cond (not (every (λ p. valid (table_byte m p)) (covered e))) SizeMismatch NoChange))
+    cond ill_formed (Err Parameter)
+    (cond (not (every coverable (covered e))) (Err Address)
+    (cond (not (every (λ p. valid (table_byte m p)) (covered e))) (Err SizeMismatch) (Err NoChange)))
 
 -- no entry from one index to another covers page p
 unfoldable pub Uncovered : ℕ → ℕ → ℕ → ℕ → Lent → Type 0

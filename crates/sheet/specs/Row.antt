@@ -1,8 +1,8 @@
--- Record i of a sheet that is lent as one slice, and what a function that reads it is told; and what is looked for in live records.
-use Rattle.std.specs.Prelude.{ℕ, ◌*◌, ◌<◌, ◌≡◌, Bool, ◌&&◌, List, [], eqb, length, get_or}
-use Rattle.rules.specs.Words.{records, record_size, number}
+-- Record i of a sheet that is lent as one slice, and what a function that reads it is told.
+use Rattle.std.specs.Prelude.{ℕ, ◌*◌, ◌<◌, ◌≡◌, List, [], length, get_or}
+use Rattle.rules.specs.Words.{records, record_size}
 use Rattle.rules.specs.declared.Vcpu.{Vcpu}
-use Rattle.rules.specs.Machine.{fields, is_live}
+use Rattle.rules.specs.Machine.{fields}
 use Rattle.rules.specs.Flat.{parts}
 
 abbrev pub row : List ℕ → ℕ → List ℕ
@@ -15,7 +15,3 @@ vcpu_in sheet i = fields (row sheet i)
 pub record Row (sheet : List ℕ) (i : ℕ) : Type 0 where
   pub sized : length sheet ≡ record_size * records
   pub below : i < records
-
--- a live record with n in the four bytes of a field
-unfoldable pub live_with : ℕ → ℕ → List ℕ → Bool
-live_with field n r = is_live r && eqb (number 4 r field) n

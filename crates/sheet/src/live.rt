@@ -1,34 +1,39 @@
-// The live records: the lowest that has a number in a field.
-ghost use Rattle.std.specs.Prelude.{◌≡◌, ◌+◌, ◌*◌, ◌≤◌, length};
+// The live records: the lowest that has an APIC ID, or a VMSA page.
+ghost use Rattle.std.specs.Prelude.{◌≡◌, ◌<◌, IfSome, position, unwrap_or};
 ghost use Rattle.rules.specs.Words.{records, record_size, lowest};
 ghost use Rattle.rules.specs.Flat.{parts};
-ghost use Rattle.sheet.specs.Row.{Row, row, live_with};
+ghost use Rattle.sheet.specs.Row.{row};
+ghost use Rattle.sheet.specs.Named.{live_named};
 
-use crate::{LIVE, RECORD_SIZE, RECORDS};
+use crate::record::vcpu;
+use crate::{RECORDS, Sheet};
 
-fn has(sheet: &[u8], i: usize, field: usize, number: u64) -> bool
-    requires { Row sheet.now i × (field + 4 ≤ record_size) }
-    ensures { result ≡ live_with field number (row sheet.now i) }
-{
-    let live = parts::byte(sheet, RECORD_SIZE, i, LIVE);
-    if live != 1 {
-        return false;
-    }
-    let held = parts::number4(sheet, RECORD_SIZE, i, field) as u64;
-    held == number
+// What is looked for in live records.
+#[derive(Clone, Copy)]
+pub enum Named {
+    Apic(u32),
+    Vmsa(u64),
 }
 
-// The number of records if none has it.
-pub fn lowest(sheet: &[u8], field: usize, number: u64) -> usize
-    requires { (length sheet.now ≡ record_size * records) × (field + 4 ≤ record_size) }
-    ensures { result ≡ lowest (live_with field number) (parts record_size sheet.now) }
+#[tactic(auto, unfolding(crate::specs::Named::live_named, rules::specs::Machine::is_live, rules::specs::Machine::fields, rules::specs::Words::record_size))]
+fn has(sheet: &Sheet, i: usize, name: Named) -> bool
+    requires { i < records }
+    ensures { result ≡ live_named name (row sheet.now i) }
 {
-    let mut i = 0;
-    while i < RECORDS {
-        if has(sheet, i, field, number) {
-            return i;
-        }
-        i += 1;
+    let v = vcpu(sheet, i);
+    match name {
+        Named::Apic(apic) => v.live == 1 && v.apic == apic,
+        Named::Vmsa(page) => v.live == 1 && u64::from(v.vmsa) == page,
     }
-    i
+}
+
+// The lowest live record that has it. It is inlined, so that a caller's `name` is known where the records are walked.
+#[inline(always)]
+#[tactic(auto, unfolding(rules::specs::Words::records, rules::specs::Words::record_size))]
+pub fn lowest(sheet: &Sheet, name: Named) -> Option<usize>
+    ensures place { result ≡ position (live_named name) (parts record_size sheet.now) }
+    ensures below { IfSome result (λ i. i < records) }
+    ensures lowest { unwrap_or result records ≡ lowest (live_named name) (parts record_size sheet.now) }
+{
+    (0..RECORDS).find(|i| has(sheet, *i, name))
 }

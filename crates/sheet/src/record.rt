@@ -1,26 +1,84 @@
-// A whole record, written eight bytes at a time.
-ghost use Rattle.std.specs.Prelude.{◌≡◌, set};
-ghost use Rattle.rules.specs.Words.{record_size};
-ghost use Rattle.rules.specs.Machine.{laid_out};
+// A record: read whole, written whole, and its two fields that change alone.
+ghost use Rattle.std.specs.Prelude.{◌≡◌, ◌<◌, [], ◌∷◌, set};
+ghost use Rattle.rules.specs.Words.{records, record_size, little};
+ghost use Rattle.rules.specs.Machine.{written, laid_out};
 ghost use Rattle.rules.specs.Flat.{parts};
-ghost use Rattle.sheet.specs.Row.{Row};
+ghost use Rattle.sheet.specs.Row.{vcpu_in};
 
-use crate::{FEATURES, LIVE, POOL_PAGE, RECORD_SIZE, VMSA};
+use crate::{RECORD_SIZE, Sheet};
 use rules::Vcpu;
 
-pub fn put_record(sheet: &mut [u8], i: usize, v: Vcpu)
-    requires { Row sheet.old i }
+// Where the fields of a record stand.
+const LIVE: usize = 0;
+
+const VMPL: usize = 1;
+
+const RUNNING: usize = 2;
+
+const HOLDING: usize = 3;
+
+const APIC_ID: usize = 4;
+
+const VMSA: usize = 8;
+
+const CALLING: usize = 12;
+
+const POOL_PAGE: usize = 16;
+
+const SPARE: usize = 20;
+
+const FEATURES: usize = 24;
+
+// A field that a caller leaves alone costs nothing: it is not read.
+#[tactic(auto, unfolding(rules::specs::Machine::fields, rules::specs::Words::record_size))]
+pub fn vcpu(sheet: &Sheet, i: usize) -> Vcpu
+    requires { i < records }
+    ensures { result ≡ vcpu_in sheet.now i }
+{
+    Vcpu {
+        live: parts::byte(sheet, RECORD_SIZE, i, LIVE),
+        vmpl: parts::byte(sheet, RECORD_SIZE, i, VMPL),
+        running: parts::byte(sheet, RECORD_SIZE, i, RUNNING),
+        holding: parts::byte(sheet, RECORD_SIZE, i, HOLDING),
+        apic: parts::number(sheet, RECORD_SIZE, i, APIC_ID),
+        vmsa: parts::number(sheet, RECORD_SIZE, i, VMSA),
+        calling: parts::number(sheet, RECORD_SIZE, i, CALLING),
+        pool: parts::number(sheet, RECORD_SIZE, i, POOL_PAGE),
+        spare: parts::number(sheet, RECORD_SIZE, i, SPARE),
+        features: parts::number(sheet, RECORD_SIZE, i, FEATURES),
+    }
+}
+
+// Written eight bytes at a time.
+pub fn put_record(sheet: &mut Sheet, i: usize, v: Vcpu)
+    requires { i < records }
     ensures { parts record_size sheet.new ≡ set (parts record_size sheet.old) i (laid_out v) }
 {
     let marks = words::join4(v.live, v.vmpl, v.running, v.holding);
-    parts::put_number8(sheet, RECORD_SIZE, i, LIVE, words::join8(marks, v.apic));
-    parts::put_number8(sheet, RECORD_SIZE, i, VMSA, words::join8(v.vmsa, v.calling));
-    parts::put_number8(
+    parts::put_number(sheet, RECORD_SIZE, i, LIVE, words::join8(marks, v.apic));
+    parts::put_number(sheet, RECORD_SIZE, i, VMSA, words::join8(v.vmsa, v.calling));
+    parts::put_number(
         sheet,
         RECORD_SIZE,
         i,
         POOL_PAGE,
         words::join8(v.pool, v.spare),
     );
-    parts::put_number8(sheet, RECORD_SIZE, i, FEATURES, v.features);
+    parts::put_number(sheet, RECORD_SIZE, i, FEATURES, v.features);
+}
+
+#[tactic(auto, unfolding(rules::specs::Words::record_size))]
+pub fn set_calling(sheet: &mut Sheet, i: usize, page: u32)
+    requires { i < records }
+    ensures { parts record_size sheet.new ≡ written i 12 (little 4 page) (parts record_size sheet.old) }
+{
+    parts::put_number(sheet, RECORD_SIZE, i, CALLING, page);
+}
+
+#[tactic(auto, unfolding(rules::specs::Words::record_size))]
+pub fn set_running(sheet: &mut Sheet, i: usize, running: u8)
+    requires { i < records }
+    ensures { parts record_size sheet.new ≡ written i 2 (running ∷ []) (parts record_size sheet.old) }
+{
+    parts::put_byte(sheet, RECORD_SIZE, i, RUNNING, running);
 }

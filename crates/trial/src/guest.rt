@@ -1,108 +1,99 @@
-// What the guest's software does, at VMPL 1: it stores bytes in its pages, sets its pending byte and calls.
-use crate::{line, show};
+// What the guest's software does, at VMPL 1, on the machine that is lent: it stores bytes in its pages, sets its pending byte and calls.
+ghost use Rattle.std.specs.Prelude.{◌<◌};
+
+use crate::row::{List, byte};
 use call::Called;
-use rules::{Launched, Plan, Registers, Verdict};
-use std::io::{self, Stdout};
+use rules::{LaunchError, Plan, Refused, Registers};
+use std::io::{self, Print, Stdout};
 
-// The night has no store and no mark that is refused; it would be seen.
-fn seen(out: Stdout, verdict: Verdict) -> io::Result<()> {
-    match verdict {
-        Verdict::Done => Ok(()),
-        Verdict::Refused => show::say(out, b"A store or a mark is refused.\n"),
+#[derive(Drop)]
+pub struct Guest {
+    out: Stdout,
+    pub memory: [u8; 65536],
+    pub table: [u8; 16],
+    pub sheet: [u8; 512],
+}
+
+impl Guest {
+    // Sixteen blank pages; VMPL 1 and EFER bit 12 make page 11 a VMSA that launch takes.
+    pub fn new(out: Stdout) -> Guest {
+        let mut memory = [0; 65536];
+        memory[0xB0CA] = 1;
+        memory[0xB0D1] = 0x10;
+        Guest {
+            out,
+            memory,
+            table: [0; 16],
+            sheet: [0; 512],
+        }
+    }
+
+    // The night has no store and no mark that is refused; it would be seen.
+    fn seen(&self, done: Result<(), Refused>) -> io::Result<()> {
+        match done {
+            Ok(()) => Ok(()),
+            Err(Refused) => println!(self.out; "A store or a mark is refused."),
+        }
+    }
+
+    // A store at a gPA.
+    fn store(&mut self, gpa: usize, bytes: &[u8]) -> io::Result<()> {
+        let (page, offset) = (gpa / 4096, gpa % 4096);
+        let done = monitor::steps::store(&mut self.memory, &self.table, 1, page, offset, bytes);
+        self.seen(done)
+    }
+
+    // A number of eight bytes, of which two are set.
+    fn put(&mut self, gpa: usize, n: u32) -> io::Result<()> {
+        self.store(gpa, &u64::from(n % 65536).to_le_bytes())
+    }
+
+    // A number, and an entry after it again and again.
+    pub fn write(&mut self, list: List) -> io::Result<()> {
+        let gpa = list.gpa as usize;
+        self.put(gpa, list.number)?;
+        for i in 1..=list.count as usize {
+            self.put(gpa + 8 * i, list.entry)?;
+        }
+        Ok(())
+    }
+
+    // A record is marked as running.
+    pub fn runs(&mut self, record: usize) -> io::Result<()> {
+        let done = monitor::steps::mark(&mut self.sheet, record, 1);
+        self.seen(done)
+    }
+
+    pub fn launch(&mut self, plan: Plan) -> Result<(), LaunchError> {
+        monitor::launch::launch(&mut self.memory, &mut self.table, &mut self.sheet, 16, plan)
+    }
+
+    // A call by a record, whose pending byte is set first.
+    pub fn call(&mut self, asked: Registers, caller: usize) -> io::Result<Called> {
+        self.store(self.calling(caller), &[1])?;
+        let (memory, table, sheet) = (&mut self.memory, &mut self.table, &mut self.sheet);
+        Ok(call::call(memory, table, sheet, asked, caller))
+    }
+
+    // The gPA of the calling page that a record names.
+    fn calling(&self, record: usize) -> usize
+        ensures { result < 0x10000000 }
+    {
+        let page = number(&self.sheet, 32 * (record % 16) + 12, 4) % 65536;
+        page as usize * 4096
+    }
+
+    // Byte 1 of the startup's calling page.
+    pub fn flag(&self) -> u8 {
+        byte(&self.memory, self.calling(0) + 1)
     }
 }
 
-// A store at a gPA.
-fn store(
-    out: Stdout,
-    memory: &mut [u8; 65536],
-    table: &[u8; 16],
-    gpa: usize,
-    bytes: &[u8],
-) -> io::Result<()> {
-    seen(
-        out,
-        monitor::steps::store(memory, table, 1, gpa / 4096, gpa % 4096, bytes),
-    )
-}
-
-// A number of eight bytes.
-fn put(
-    out: Stdout,
-    memory: &mut [u8; 65536],
-    table: &[u8; 16],
-    gpa: usize,
-    n: usize,
-) -> io::Result<()> {
-    let low = (n % 256) as u8;
-    let high = (n / 256 % 256) as u8;
-    store(out, memory, table, gpa, &[low, high, 0, 0, 0, 0, 0, 0])
-}
-
-// A number, and an entry after it again and again.
-pub fn write(
-    out: Stdout,
-    memory: &mut [u8; 65536],
-    table: &[u8; 16],
-    text: &[u8],
-) -> io::Result<()> {
-    let gpa = line::field(text, 0);
-    let entry = line::field(text, 2);
-    let count = line::field(text, 3);
-    put(out, memory, table, gpa, line::field(text, 1))?;
-    let mut done = 0;
-    while done < count {
-        done += 1;
-        put(out, memory, table, gpa + 8 * done, entry)?;
+// The number that some bytes are, the lowest first. At most eight of them count, and what is not there is 0.
+pub fn number(bytes: &[u8], at: usize, width: usize) -> u64 {
+    let mut low = [0; 8];
+    for (to, from) in low.iter_mut().zip(bytes.iter().skip(at).take(width)) {
+        *to = *from;
     }
-    Ok(())
-}
-
-// A record is marked as running.
-pub fn runs(out: Stdout, sheet: &mut [u8; 512], text: &[u8]) -> io::Result<()> {
-    seen(out, monitor::steps::mark(sheet, line::field(text, 0), 1))
-}
-
-fn plan(text: &[u8]) -> Plan {
-    Plan {
-        first: line::field(text, 0),
-        count: line::field(text, 1),
-        vmsa: line::field(text, 2),
-        calling: line::field(text, 3),
-        apic: line::field(text, 4) as u32,
-        valid: line::field(text, 5),
-    }
-}
-
-pub fn launch(
-    memory: &mut [u8; 65536],
-    table: &mut [u8; 16],
-    sheet: &mut [u8; 512],
-    text: &[u8],
-) -> Launched {
-    monitor::launch::launch(memory, table, sheet, 16, plan(text))
-}
-
-fn asked(text: &[u8]) -> Registers {
-    Registers {
-        rax: line::field(text, 0) as u64,
-        rcx: line::field(text, 1) as u64,
-        rdx: line::field(text, 2) as u64,
-        r8: line::field(text, 3) as u64,
-        r9: 0,
-        reason: 0x403,
-    }
-}
-
-// A call by a record, whose pending byte is set first.
-pub fn call(
-    out: Stdout,
-    memory: &mut [u8; 65536],
-    table: &mut [u8; 16],
-    sheet: &mut [u8; 512],
-    text: &[u8],
-) -> io::Result<Called> {
-    let caller = line::field(text, 4);
-    store(out, memory, table, show::calling(sheet, caller), &[1])?;
-    Ok(call::call(memory, table, sheet, asked(text), caller))
+    u64::from_le_bytes(low)
 }

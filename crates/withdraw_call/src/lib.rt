@@ -1,89 +1,106 @@
 // 5 Withdraw: the head's checks in order, and the free pool pages that are given back. Nothing is assumed.
 #![tactic(auto)]
 
-ghost use Rattle.std.specs.Prelude.{◌≡◌, [], ◌∷◌, ◌<◌, length, get_or, take};
-ghost use Rattle.rules.specs.Words.{places};
+ghost use Rattle.std.specs.Prelude.{◌≡◌, ◌+◌, ◌*◌, ◌<◌, ◌≤◌, cond, Ok, Err, length, take};
+ghost use Rattle.rules.specs.declared.Refusal.TheVariants.{Address};
+ghost use Rattle.rules.specs.Words.{page_size, little, places};
 ghost use Rattle.rules.specs.Answers.{Answered};
-ghost use Rattle.rules.specs.Calls.{is_free};
-ghost use Rattle.rules.specs.Flat.{buffers, parted};
+ghost use Rattle.rules.specs.Machine.{◌▷◌, offset_of, write};
+ghost use Rattle.rules.specs.Lists.{bad_list_page};
+ghost use Rattle.rules.specs.Calls.{is_free, give_back, withdraw};
 ghost use Rattle.laws.specs.Tested.{Tested};
-ghost use Rattle.withdraw_call.specs.Given.{Room, Given};
+ghost use Rattle.machine.specs.Held.{bytes_of, lent_of, SameBuffers};
+ghost use Rattle.withdraw_call.specs.Given.{named, Fits, given};
 
-use pages::{PAGE_SIZE, PAGE_SIZE_U64};
-use rules::Code;
+use lists::list_page;
+use machine::held::Machine;
+use pages::PAGE_SIZE;
+use pages::byte::{self, Owner};
+use pages::gpa::Gpa;
+use rules::{Code, Progress, Refusal};
 
-// Page p, if it is a free one: its gPA put at the place `at` of the list's page, and its byte plain and granted. How many were given: 1 or 0.
-fn give_back(
-    memory: &mut [u8],
-    table: &mut [u8],
-    p: usize,
+// The list to be written: its page and its offset there, how many gPAs fit below the page's end, and the VMPL that their pages are granted to.
+#[derive(Clone, Copy)]
+struct GpaList {
     page: usize,
-    at: usize,
+    offset: usize,
+    room: usize,
     vmpl: u8,
-) -> usize
-    requires { Room memory.old table.old page at 1 × (p < length table.old) }
-    ensures { Given vmpl page at (places is_free p (get_or table.old p 0 ∷ []))
-        memory.old table.old memory.new table.new result }
-{
-    let b = table[p];
-    let free = pages::byte::is_free(b);
-    if !free {
-        return 0;
+}
+
+impl GpaList {
+    // As a gPA names it, if a caller of this VMPL may use its page.
+    #[tactic(auto, using(lists::proofs::Page::list_page_table), unfolding(rules::specs::Words::page_size))]
+    fn named(machine: &Machine, vmpl: u8, gpa: Gpa) -> Result<GpaList, Refusal>
+        requires { offset_of gpa.0 + 8 ≤ page_size }
+        ensures { result ≡ cond (bad_list_page vmpl gpa.0 (lent_of machine.now)) (Err Address) (Ok (named vmpl gpa.0)) }
+    {
+        let page = list_page(machine.table, vmpl, gpa)?;
+        let offset = gpa.offset();
+        Ok(GpaList {
+            page,
+            offset,
+            room: (PAGE_SIZE - offset - 8) / 8,
+            vmpl,
+        })
     }
-    parts::put_number8(memory, PAGE_SIZE, page, at, PAGE_SIZE_U64 * p as u64);
-    table[p] = pages::byte::granted(vmpl, pages::byte::owned(0, b));
-    1
+}
+
+// Page p plain and granted to the caller's VMPL, and its gPA in the list after those that are taken already.
+#[tactic(auto, using(crate::proofs::Giving::given_back, laws::proofs::FlatSteps::sizes), unfolding(rules::specs::Words::page_size, rules::specs::Words::most_pages))]
+fn give_back(machine: &mut Machine, list: GpaList, taken: usize, p: usize)
+    requires fits { Fits list machine.old }
+    requires room { taken < list.room }
+    requires below { p < length machine.old.table.now }
+    ensures same { SameBuffers machine.old machine.new }
+    ensures done { lent_of machine.new
+        ≡ (lent_of machine.old ▷ give_back list.vmpl p
+        ▷ write list.page (list.offset + 8 + 8 * taken) (little 8 (page_size * p))) }
+{
+    machine.set_owner(p, Owner::Plain);
+    machine.grant(p, list.vmpl);
+    machine.write(
+        list.page,
+        list.offset + 8 + 8 * taken,
+        (PAGE_SIZE * p) as u64,
+    );
 }
 
 // The free pages, lowest first, as many as there is room for. How many were given.
-fn give_pages(
-    memory: &mut [u8],
-    table: &mut [u8],
-    page: usize,
-    at: usize,
-    room: usize,
-    vmpl: u8,
-) -> usize
-    requires { Room memory.old table.old page at room }
-    ensures { Given vmpl page at (take room (places is_free 0 table.old))
-        memory.old table.old memory.new table.new result }
+#[tactic(auto, using(crate::proofs::Giving::full))]
+fn give_pages(machine: &mut Machine, list: GpaList) -> usize
+    requires { Fits list machine.old }
+    ensures same { SameBuffers machine.old machine.new }
+    ensures many { result ≡ length (take list.room (places is_free 0 machine.old.table.now)) }
+    ensures done { lent_of machine.new
+        ≡ given list (take list.room (places is_free 0 machine.old.table.now)) (lent_of machine.old) }
 {
-    let mut p = 0;
     let mut taken = 0;
-    while p < table.len() {
-        if taken >= room {
-            return taken;
+    for p in 0..machine.table.len() {
+        if taken == list.room {
+            break;
         }
-        taken += give_back(memory, table, p, page, at + 8 * taken, vmpl);
-        p += 1;
+        if !byte::is_free(machine.table[p]) {
+            continue;
+        }
+        give_back(machine, list, taken, p);
+        taken += 1;
     }
     taken
 }
 
-// 5 Withdraw.
-pub fn withdraw(memory: &mut [u8], table: &mut [u8], sheet: &[u8], caller: usize, rcx: u64) -> Code
-    requires { Tested (buffers memory.old table.old sheet.now) caller }
-    ensures { Rattle.rules.specs.Calls.withdraw caller rcx
-        (parted (buffers memory.old table.old sheet.now))
-        ≡ record {
-          answer = result;
-          after = parted (buffers memory.new table.new sheet.now);
-        } }
+#[tactic(auto, using(laws::proofs::Tested::caller_below, lists::proofs::Page::page_below), unfolding(rules::specs::Calls::withdraw, rules::specs::Answers::refuse, rules::specs::Words::multiple, rules::specs::Words::page_size, rules::specs::Machine::offset_of))]
+pub fn withdraw(machine: &mut Machine, caller: usize, rcx: u64) -> Code
+    requires { Tested (bytes_of machine.old) caller }
+    ensures same { SameBuffers machine.old machine.new }
+    ensures done { withdraw caller rcx (lent_of machine.old) ≡ record { answer = result; after = lent_of machine.new } }
 {
-    if rcx % 8 != 0 {
-        return Code::Parameter;
+    let gpa = Gpa(rcx);
+    if rcx % 8 != 0 || gpa.offset() == 0xFF8 {
+        return Err(Refusal::Parameter);
     }
-    if rcx % PAGE_SIZE_U64 == 0xFF8 {
-        return Code::Parameter;
-    }
-    let vmpl = parts::byte(sheet, sheet::RECORD_SIZE, caller, sheet::VMPL);
-    if lists::bad_list_page(table, vmpl, rcx) {
-        return Code::Address;
-    }
-    let page = (rcx / PAGE_SIZE_U64) as usize;
-    let offset = (rcx % PAGE_SIZE_U64) as usize;
-    let room = (PAGE_SIZE - offset - 8) / 8;
-    let taken = give_pages(memory, table, page, offset + 8, room, vmpl);
-    parts::put_number2(memory, PAGE_SIZE, page, offset, taken as u16);
-    Code::Success
+    let list = GpaList::named(machine, machine.vcpu(caller).vmpl, gpa)?;
+    let taken = give_pages(machine, list);
+    machine.write(list.page, list.offset, taken as u16);
+    Ok(Progress::Success)
 }

@@ -2,60 +2,69 @@
 // width cite one law. Nothing is assumed.
 #![tactic(auto)]
 
-ghost use Rattle.std.specs.Prelude.{◌≡◌, [], ◌∷◌, ◌++◌, ◌+◌, ◌<◌, ◌≤◌, length};
+ghost use Rattle.std.specs.Prelude.{◌≡◌, ℕ, [], ◌∷◌, ◌++◌, ◌+◌, ◌≤◌, length};
 ghost use Rattle.std.proofs.lemmas.List.Edits.{sets};
 ghost use Rattle.rules.specs.Words.{number, little};
 
-fn wide(b: u8) -> u16
-    ensures { (result ≡ b) × (result < 256) }
-{
-    b as u16
+// A little-endian number: how many bytes it takes, and the number that it is.
+pub trait Little: Copy {
+    ghost width: { ℕ };
+
+    ghost value: { Self → ℕ };
+
+    fn read(s: &[u8], at: usize) -> Self
+        requires { at + width ≤ length s.now }
+        ensures { value result ≡ number width s.now at };
+
+    fn write(self, s: &mut [u8], at: usize)
+        requires { at + width ≤ length s.old }
+        ensures { s.new ≡ sets s.old at (little width (value self)) };
 }
 
-pub fn read2(s: &[u8], at: usize) -> u16
-    requires { at + 2 ≤ length s.now }
-    ensures { result ≡ number 2 s.now at }
-{
-    wide(s[at]) + 256 * wide(s[at + 1])
+impl Little for u16 {
+    ghost width = { 2 };
+
+    ghost value = { λ x. x };
+
+    fn read(s: &[u8], at: usize) -> u16 {
+        u16::from(s[at]) + 256 * u16::from(s[at + 1])
+    }
+
+    #[tactic(auto, unfolding(rules::specs::Words::little))]
+    fn write(self, s: &mut [u8], at: usize) {
+        s[at] = (self % 256) as u8;
+        s[at + 1] = (self / 256) as u8;
+    }
 }
 
-pub fn read4(s: &[u8], at: usize) -> u32
-    requires { at + 4 ≤ length s.now }
-    ensures { result ≡ number 4 s.now at }
-{
-    (read2(s, at) as u32) + 65536 * (read2(s, at + 2) as u32)
+impl Little for u32 {
+    ghost width = { 4 };
+
+    ghost value = { λ x. x };
+
+    fn read(s: &[u8], at: usize) -> u32 {
+        u32::from(u16::read(s, at)) + 65536 * u32::from(u16::read(s, at + 2))
+    }
+
+    fn write(self, s: &mut [u8], at: usize) {
+        ((self % 65536) as u16).write(s, at);
+        ((self / 65536) as u16).write(s, at + 2);
+    }
 }
 
-pub fn read8(s: &[u8], at: usize) -> u64
-    requires { at + 8 ≤ length s.now }
-    ensures { result ≡ number 8 s.now at }
-{
-    (read4(s, at) as u64) + 4294967296 * (read4(s, at + 4) as u64)
-}
+impl Little for u64 {
+    ghost width = { 8 };
 
-#[tactic(auto, unfolding(rules::specs::Words::little))]
-pub fn write2(s: &mut [u8], at: usize, x: u16)
-    requires { at + 2 ≤ length s.old }
-    ensures { s.new ≡ sets s.old at (little 2 x) }
-{
-    s[at] = (x % 256) as u8;
-    s[at + 1] = (x / 256) as u8;
-}
+    ghost value = { λ x. x };
 
-pub fn write4(s: &mut [u8], at: usize, x: u32)
-    requires { at + 4 ≤ length s.old }
-    ensures { s.new ≡ sets s.old at (little 4 x) }
-{
-    write2(s, at, (x % 65536) as u16);
-    write2(s, at + 2, (x / 65536) as u16);
-}
+    fn read(s: &[u8], at: usize) -> u64 {
+        u64::from(u32::read(s, at)) + 4294967296 * u64::from(u32::read(s, at + 4))
+    }
 
-pub fn write8(s: &mut [u8], at: usize, x: u64)
-    requires { at + 8 ≤ length s.old }
-    ensures { s.new ≡ sets s.old at (little 8 x) }
-{
-    write4(s, at, (x % 4294967296) as u32);
-    write4(s, at + 4, (x / 4294967296) as u32);
+    fn write(self, s: &mut [u8], at: usize) {
+        ((self % 4294967296) as u32).write(s, at);
+        ((self / 4294967296) as u32).write(s, at + 4);
+    }
 }
 
 // The number of four bytes.

@@ -1,15 +1,11 @@
--- The loop's invariant: the marks of the records passed are gathered. The measure is the count of records left.
+-- The loop's invariant: the marks of the records passed are gathered.
 use mathlib.Core.Path.{◌≡◌}
-use Prim.Native.Nat.{◌-◌, ◌≤◌}
 use lib.ListN.{take}
-use Rattle.rules.specs.Words.{records, record_size}
+use Rattle.rules.specs.Words.{record_size}
 use Rattle.rules.specs.Machine.{is_live}
 use Rattle.rules.specs.Flat.{parts}
 use Rattle.laws.specs.Marks.{marks}
 use Rattle.create_call.proofs.live_marks.Given as goal
 
 abbrev pub invariant-loop-i : goal.invariant-loop-i
-invariant-loop-i l = (l.i ≤ records) × (l.marks ≡ marks is_live (take l.i (parts record_size l.sheet)))
-
-abbrev pub decreases-loop-i : goal.decreases-loop-i
-decreases-loop-i l = records - l.i
+invariant-loop-i l = l.marks ≡ marks is_live (take l.i (parts record_size l.sheet))

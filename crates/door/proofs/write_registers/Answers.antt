@@ -8,6 +8,6 @@ pub returns : goal.returns
 unfolding registers_size register_bytes bytes_of
 returns c =
     let front =
-    none then c.write8.ensures then c.write8-2.ensures then c.write8-3.ensures then c.write8-4.ensures then c.write8-5.ensures
-    then c.write8-6.ensures in
+    none then c.write.ensures then c.write-2.ensures then c.write-3.ensures then c.write-4.ensures then c.write-5.ensures
+    then c.write-6.ensures in
     all front c.requires

@@ -1,11 +1,8 @@
-use borrow.Author.Tests.{eq-eqb, ne_eqb}
-use Rattle.laws.specs.Revised.{revise}
+-- Table, record and pages, each as the definition has it.
+use Rattle.remap_call.proofs.Moved.{moved}
 use Rattle.remap_call.proofs.move_area.Goals as goal
 
-pub returns-then-old-new : goal.returns-then-old-new
-unfolding revise
-returns-then-old-new c = rw (eq-eqb _ _ c.if-old-new.true, c.owned.ensures)
-
-pub returns : goal.returns
-unfolding revise
-returns c = rw (ne_eqb _ _ c.if-old-new.false, c.owned-3.ensures, c.owned-2.ensures)
+pub returns-clause-done : goal.returns-clause-done
+returns-clause-done c =
+    rw (c.write_byte-2.ensures.done, c.write_byte.ensures.done, c.set_calling.ensures.done, c.set_owner-2.ensures.done, c.set_owner.ensures.done)
+    (moved _ _ _ _)

@@ -9,14 +9,14 @@ use lib.Dec.{leb, eqb}
 use lib.ListN.{length, get_or}
 use lib.Seq.{sets}
 use borrow.Author.Tests.{ltb-false}
+use Rattle.std.specs.Prelude.{Ok}
 use Rattle.rules.specs.declared.Registers.{Registers}
 use Rattle.rules.specs.declared.Outcome.{Outcome}
 use Rattle.rules.specs.declared.Outcome.TheVariants.{BadMachine}
-use Rattle.rules.specs.declared.Code.{Code}
-use Rattle.rules.specs.declared.Code.TheVariants.{Success}
+use Rattle.rules.specs.declared.Progress.TheVariants.{Success}
 use Rattle.rules.specs.declared.ListCall.{ListCall}
 use Rattle.rules.specs.declared.Wish.{Wish}
-use Rattle.rules.specs.Answers.{Answered, code_number}
+use Rattle.rules.specs.Answers.{Code, Answered, code_number}
 use Rattle.rules.specs.Words.{page_size, record_size, entries_a_call, multiple, little, range}
 use Rattle.rules.specs.Machine.{Lent, Machine, with_lent, page_of, with_memory, write, zeros, grant, revoke, own, change}
 use Rattle.rules.specs.Machine.{fields, laid_out, is_live, holds, needs_page, record_at, vcpu, amend}
@@ -117,11 +117,11 @@ created_bounded a i m fit =
     (created_table a i m) (created_sheet a i m)
 
 -- Delete is done of a record whose VMPL is not below the caller's
-delete_rank : (caller rcx : ℕ) (m : Lent) → (delete caller rcx m).answer ≡ Success → (vcpu m caller).vmpl ≤ (vcpu m (named_by (page_of rcx) m)).vmpl
+delete_rank : (caller rcx : ℕ) (m : Lent) → (delete caller rcx m).answer ≡ Ok Success → (vcpu m caller).vmpl ≤ (vcpu m (named_by (page_of rcx) m)).vmpl
 unfolding delete code_number
 delete_rank caller rcx m =
     let i = named_by (page_of rcx) m in
-    on_refuse (λ (a : Answered Code Lent). a.answer ≡ Success → (vcpu m caller).vmpl ≤ (vcpu m i).vmpl) m _ _ _
+    on_refuse (λ (a : Answered Code Lent). a.answer ≡ Ok Success → (vcpu m caller).vmpl ≤ (vcpu m i).vmpl) m _ _ _
     (λ t done. absurd (omega (arith, ap code_number done)))
     (λ t done. ltb-false _ _ (or_false (not (multiple page_size rcx) || leb (length m.sheet) i || eqb i 0) _ t).1)
 

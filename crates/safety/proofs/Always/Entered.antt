@@ -10,9 +10,8 @@ use lib.ListN.{length}
 use lib.Seq.{sets}
 use Rattle.rules.specs.declared.Registers.{Registers}
 use Rattle.rules.specs.declared.Outcome.{Outcome}
-use Rattle.rules.specs.declared.Code.{Code}
 use Rattle.rules.specs.declared.ListCall.{ListCall}
-use Rattle.rules.specs.Answers.{Answered}
+use Rattle.rules.specs.Answers.{Code, Answered}
 use Rattle.rules.specs.Words.{most_pages, record_size, entries_a_call, little, number}
 use Rattle.rules.specs.Machine.{Lent, Machine, with_lent, N, page_at, with_memory, write, zeros, fields, laid_out, is_live, record_at, vcpu, amend}
 use Rattle.rules.specs.Machine.{vmsa_vmpl}

@@ -11,11 +11,10 @@ use lib.ListN.{length, get_or, set}
 use lib.Seq.{get_or-set_same, get_or-set_other, set_out}
 use borrow.Author.Tests.{ltb-true, ltb-false, eq-eqb, eqb-true, eqb-false, ne_eqb}
 use Rattle.rules.specs.declared.Registers.{Registers}
-use Rattle.rules.specs.declared.Code.{Code}
 use Rattle.rules.specs.declared.Outcome.TheVariants.{Handled, Gone, BadMachine}
 use Rattle.rules.specs.declared.ListCall.{ListCall}
 use Rattle.rules.specs.declared.ListCall.TheVariants.{Pvalidate, Deposit}
-use Rattle.rules.specs.Answers.{Answered, outcome_number}
+use Rattle.rules.specs.Answers.{Code, Answered, outcome_number}
 use Rattle.rules.specs.Words.{record_size, entries_a_call}
 use Rattle.rules.specs.Machine.{Lent, Machine, with_lent, page_of, page_at, with_memory, written, write, zeros, grant, own, change, table_byte}
 use Rattle.rules.specs.Machine.{is_live, holds, record_at, vcpu, startup, efer}

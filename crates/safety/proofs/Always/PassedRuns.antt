@@ -7,13 +7,13 @@ use native.Mathlib.Omega.{arith}
 use lib.Dec.{eqb}
 use lib.ListN.{length, length-set}
 use borrow.Author.Tests.{eqb-true, eqb-false}
-use Rattle.rules.specs.declared.Code.{Code}
+use Rattle.std.specs.Prelude.{Result, Ok, Err}
 use Rattle.rules.specs.declared.Entry.{Entry}
-use Rattle.rules.specs.declared.Entry.TheVariants.{Reads, Unread}
+use Rattle.rules.specs.declared.Refusal.{Refusal}
 use Rattle.rules.specs.declared.ListCall.{ListCall}
 use Rattle.rules.specs.declared.Wish.{Wish}
 use Rattle.rules.specs.declared.Wish.TheVariants.{Invalid, Valid, Pool}
-use Rattle.rules.specs.Answers.{Answered}
+use Rattle.rules.specs.Answers.{Code, reads, Answered}
 use Rattle.rules.specs.Words.{little, range}
 use Rattle.rules.specs.Machine.{Lent, page_of, offset_of, page_at, fill, with_memory, vcpu}
 use Rattle.rules.specs.Lists.{list_next, list_entry, store_index, read_entry, cleared, carry_out, carry_out_all, after_entry, run}
@@ -34,11 +34,11 @@ uncovered_more from k p rcx m none last j low up =
     by_test (eqb j k) (λ t. rw (eqb-true j k t) last) (λ t. none j low (omega (arith, eqb-false j k t)))
 
 -- an entry that is carried out leaves a page that it does not cover
-pub uncovered_left : (call : ListCall) (vmpl rcx e first n : ℕ) (wish : Wish) (m : Lent) → read_entry call vmpl rcx e m ≡ Reads first n wish
+pub uncovered_left : (call : ListCall) (vmpl rcx e first n : ℕ) (wish : Wish) (m : Lent) → read_entry call vmpl rcx e m ≡ reads first n wish
     → (p : ℕ) → covers e p ≡ false → Untouched p m (carry_out_all wish vmpl first n m)
 unfolding carry_out_all
-uncovered_left call vmpl rcx e first n wish m reads p away =
-    let told = entry_read call vmpl rcx e first n wish m reads in
+uncovered_left call vmpl rcx e first n wish m clean p away =
+    let told = entry_read call vmpl rcx e first n wish m clean in
     each_elsewhere (carry_out wish vmpl) p (carry_elsewhere wish vmpl p) (range first n) m
     (sym (covers_range told p) ∙ away)
 
@@ -82,35 +82,36 @@ module _ (call : ListCall) (caller rcx p : ℕ) (m : Lent) (there : page_of rcx 
   stopped : (k last index : ℕ) (now : Lent) → At rcx p m k now → k ≤ last → last < 65536 → index ≡ k → Told rcx p m last (store_index index rcx now)
   unfolding store_index list_next
   stopped k last index now h low few own =
-      let reads : list_next rcx (store_index index rcx now) ≡ k
+      let told : list_next rcx (store_index index rcx now) ≡ k
       = rw own (in_list_written 2 2 (offset_of rcx + 2) k rcx now refl (omega (arith, h.pages)) (omega (arith, ap length h.list)) (omega arith)) in
       record {
-        most = omega (arith, reads);
+        most = omega (arith, told);
         untouched = λ none.
-            untouched_twice (h.left (rw reads at none))
+            untouched_twice (h.left (rw told at none))
             (write_elsewhere p (page_of rcx) (offset_of rcx + 2) (little 2 index) now apart);
       }
 
   -- an entry is passed
   come_on : (k first n : ℕ) (wish : Wish) (now : Lent) → list_next rcx m ≤ k → At rcx p m k now
-      → read_entry call (vcpu now caller).vmpl rcx (list_entry k rcx now) now ≡ Reads first n wish → At rcx p m (suc k) (carry_out_all wish (vcpu now caller).vmpl first n now)
+      → read_entry call (vcpu now caller).vmpl rcx (list_entry k rcx now) now ≡ reads first n wish → At rcx p m (suc k) (carry_out_all wish (vcpu now caller).vmpl first n now)
   unfolding Uncovered
-  come_on k first n wish now low h reads =
+  come_on k first n wish now low h clean =
       record {
-        list = list_kept call _ rcx (list_entry k rcx now) first n wish now reads ∙ h.list;
+        list = list_kept call _ rcx (list_entry k rcx now) first n wish now clean ∙ h.list;
         pages = entry_length wish (vcpu now caller).vmpl first n now ∙ h.pages;
-        entries = λ j. entry_kept call _ rcx (list_entry k rcx now) first n wish now reads j ∙ h.entries j;
+        entries = λ j. entry_kept call _ rcx (list_entry k rcx now) first n wish now clean j ∙ h.entries j;
         left = λ none.
             untouched_twice (h.left (λ j from up. none j from (omega arith)))
-            (uncovered_left call _ rcx (list_entry k rcx now) first n wish now reads p (rw (h.entries k) (none k low (omega arith))));
+            (uncovered_left call _ rcx (list_entry k rcx now) first n wish now clean p (rw (h.entries k) (none k low (omega arith))));
       }
 
-  entry_told : (x : Entry) (k last : ℕ) (go_on : Lent → Answered Code Lent) (now : Lent) → read_entry call (vcpu now caller).vmpl rcx (list_entry k rcx now) now ≡ x
+  entry_told : (x : Result Entry Refusal) (k last : ℕ) (go_on : Lent → Answered Code Lent) (now : Lent)
+      → read_entry call (vcpu now caller).vmpl rcx (list_entry k rcx now) now ≡ x
       → ((then : Lent) → At rcx p m (suc k) then → Told rcx p m last (go_on then).after)
       → list_next rcx m ≤ k → At rcx p m k now → k ≤ last → last < 65536 → Told rcx p m last (after_entry x caller rcx k go_on now).after
   unfolding after_entry
-  entry_told (Reads first n wish) k last go_on now is rest low h up few = rest _ (come_on k first n wish now low h is)
-  entry_told (Unread code) k last go_on now is rest low h up few = stopped k last _ now h up few (omega arith)
+  entry_told (Ok entry) k last go_on now is rest low h up few = rest _ (come_on k entry.first entry.count entry.wish now low h is)
+  entry_told (Err code) k last go_on now is rest low h up few = stopped k last _ now h up few (omega arith)
 
   -- a run from entry k on, of `todo` entries or fewer
   pub run_told : (todo k last : ℕ) (now : Lent) → list_next rcx m ≤ k → At rcx p m k now → k + todo ≤ last → last < 65536

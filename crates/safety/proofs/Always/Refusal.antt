@@ -6,15 +6,15 @@ use Prim.Native.Nat.{ℕ, zero, suc, ◌+◌, ◌-◌, ◌<◌, ◌≤◌, min}
 use native.Mathlib.Omega.{arith}
 use lib.Dec.{leb, eqb, ltb}
 use borrow.Author.Tests.{eq-eqb, eqb-true, eqb-false, lt-ltb, le-leb, leb-false, not-true, not-false}
+use Rattle.std.specs.Prelude.{Result, Ok, Err}
 use Rattle.rules.specs.declared.Registers.{Registers}
-use Rattle.rules.specs.declared.Code.{Code}
-use Rattle.rules.specs.declared.Code.TheVariants.{Success, Incomplete}
+use Rattle.rules.specs.declared.Progress.TheVariants.{Success, Incomplete}
 use Rattle.rules.specs.declared.Outcome.TheVariants.{Handled, Gone, BadMachine}
 use Rattle.rules.specs.declared.Entry.{Entry}
-use Rattle.rules.specs.declared.Entry.TheVariants.{Reads, Unread}
+use Rattle.rules.specs.declared.Refusal.{Refusal}
 use Rattle.rules.specs.declared.ListCall.{ListCall}
 use Rattle.rules.specs.declared.ListCall.TheVariants.{Pvalidate, Deposit}
-use Rattle.rules.specs.Answers.{Answered, refuse, code_number, outcome_number}
+use Rattle.rules.specs.Answers.{Code, Answered, refuse, code_number, outcome_number}
 use Rattle.rules.specs.Words.{entries_a_call, multiple}
 use Rattle.rules.specs.Machine.{Lent, Machine, with_lent, with_memory, write, is_live, record_at, vcpu}
 use Rattle.rules.specs.Lists.{list_count, list_next, list_entry, store_index, bad_list_page, bad_count, bad_next, read_entry, carry_out_all, after_entry, run, run_within}
@@ -42,22 +42,22 @@ record Stopped (call : ListCall) (caller rcx todo k : ℕ) (m : Lent) (a : Answe
   within : entry < k + todo
   below : entry < list_count rcx m
   before : Lent
-  earlier : run call caller rcx (entry - k) k m ≡ record { answer = Incomplete; after = before }
-  code : Code
-  unread : read_entry call (vcpu before caller).vmpl rcx (list_entry entry rcx m) before ≡ Unread code
-  told : a.answer ≡ code
+  earlier : run call caller rcx (entry - k) k m ≡ record { answer = Ok Incomplete; after = before }
+  code : Refusal
+  unread : read_entry call (vcpu before caller).vmpl rcx (list_entry entry rcx m) before ≡ Err code
+  told : a.answer ≡ Err code
   reached : a.after ≡ before
 
-stopped_later : (x : Entry) (call : ListCall) (caller rcx todo k : ℕ) (m : Lent) → read_entry call (vcpu m caller).vmpl rcx (list_entry k rcx m) m ≡ x
+stopped_later : (x : Result Entry Refusal) (call : ListCall) (caller rcx todo k : ℕ) (m : Lent) → read_entry call (vcpu m caller).vmpl rcx (list_entry k rcx m) m ≡ x
     → suc (k + todo) ≤ list_count rcx m
     → ((now : Lent) → suc k + todo ≤ list_count rcx now → refuses (run call caller rcx todo (suc k) now).answer ≡ true
     → Stopped call caller rcx todo (suc k) now (run call caller rcx todo (suc k) now))
     → refuses (after_entry x caller rcx k (run call caller rcx todo (suc k)) m).answer ≡ true
     → Stopped call caller rcx (suc todo) k m (after_entry x caller rcx k (run call caller rcx todo (suc k)) m)
 unfolding run after_entry
-stopped_later (Reads first n wish) call caller rcx todo k m e b later h =
-    let now : Lent = carry_out_all wish (vcpu m caller).vmpl first n m in
-    let count = count_kept call _ rcx (list_entry k rcx m) first n wish m e in
+stopped_later (Ok entry) call caller rcx todo k m e b later h =
+    let now : Lent = carry_out_all entry.wish (vcpu m caller).vmpl entry.first entry.count m in
+    let count = count_kept call _ rcx (list_entry k rcx m) entry.first entry.count entry.wish m e in
     let s = later now (omega (arith, count)) h in
     let same : s.entry - k ≡ suc (s.entry - suc k) = omega (arith, s.from) in
     record {
@@ -68,11 +68,11 @@ stopped_later (Reads first n wish) call caller rcx todo k m e b later h =
       before = s.before;
       earlier = rw (same, e) s.earlier;
       code = s.code;
-      unread = rw (entry_kept call _ rcx (list_entry k rcx m) first n wish m e s.entry) at s.unread;
+      unread = rw (entry_kept call _ rcx (list_entry k rcx m) entry.first entry.count entry.wish m e s.entry) at s.unread;
       told = s.told;
       reached = s.reached;
     }
-stopped_later (Unread code) call caller rcx todo k m e b later h =
+stopped_later (Err code) call caller rcx todo k m e b later h =
     let none : k - k ≡ 0 = omega arith in
     let less : ltb k (list_count rcx m) ≡ true = lt-ltb k (list_count rcx m) (omega arith) in
     record {
@@ -109,7 +109,7 @@ within_stopped : (call : ListCall) (caller rcx : ℕ) (m : Lent) → list_next r
 unfolding run_within
 within_stopped call caller rcx m less h = run_stopped call caller rcx _ (list_next rcx m) m (omega arith) h
 
-succeeds : {A : Type 0} → refuses Success ≡ true → A
+succeeds : {A : Type 0} → refuses (Ok Success) ≡ true → A
 unfolding refuses code_number
 succeeds h = absurd (true≢false (sym h))
 
@@ -121,7 +121,7 @@ vtom_unmoved : (rcx : ℕ) → Unmoved rcx (vtom rcx)
 unfolding vtom configure
 vtom_unmoved rcx =
     on_refuse (Unmoved rcx) rcx _ _ _ (λ t h. refl) (λ t.
-    on_test (Unmoved rcx) (eqb rcx 1) (record { answer = Success; after = 0 }) (configure rcx) (λ u. succeeds) (λ u.
+    on_test (Unmoved rcx) (eqb rcx 1) (record { answer = Ok Success; after = 0 }) (configure rcx) (λ u. succeeds) (λ u.
     on_refuse (Unmoved rcx) rcx _ _ _ (λ v h. refl) (λ v h. refl)))
 
 module _ (m : Lent) where
@@ -304,7 +304,7 @@ left_at_entry call caller g m a r rax ran =
     let next = list_next g.rcx m in
     let count = list_count g.rcx m in
     let same : min (ran.entry - next) (count - next) ≡ ran.entry - next = omega (arith, ran.below, ran.from) in
-    let earlier : run_within (ran.entry - next) call caller g.rcx m ≡ record { answer = Incomplete; after = ran.before } = rw same ran.earlier in
+    let earlier : run_within (ran.entry - next) call caller g.rcx m ≡ record { answer = Ok Incomplete; after = ran.before } = rw same ran.earlier in
     record {
       entry = ran.entry;
       from = ran.from;

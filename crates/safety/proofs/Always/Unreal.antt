@@ -9,8 +9,7 @@ use lib.ListN.{length, get_or, take, drop}
 use lib.Seq.{take-add, take_all}
 use borrow.Author.Tests.{eqb-true}
 use Rattle.rules.specs.declared.Registers.{Registers}
-use Rattle.rules.specs.declared.Code.{Code}
-use Rattle.rules.specs.Answers.{Answered, refuse}
+use Rattle.rules.specs.Answers.{Code, Answered, refuse}
 use Rattle.rules.specs.Words.{registers_size, little, number}
 use Rattle.rules.specs.Machine.{Lent, Machine, is_live, record_at}
 use Rattle.rules.specs.Call.{Posed, bad_machine, no_call, handle, finish, call}

@@ -10,13 +10,13 @@ use lib.Dec.{eqb, ltb}
 use lib.ListN.{length, get_or, set, get_or-eq_default}
 use lib.Seq.{sets, set_out, get_or-set_same}
 use borrow.Author.Tests.{eqb-true, eqb-false, ltb-true, ltb-false}
-use Rattle.rules.specs.declared.Code.{Code}
+use Rattle.std.specs.Prelude.{Result, Ok, Err}
 use Rattle.rules.specs.declared.Entry.{Entry}
-use Rattle.rules.specs.declared.Entry.TheVariants.{Reads, Unread}
+use Rattle.rules.specs.declared.Refusal.{Refusal}
 use Rattle.rules.specs.declared.ListCall.TheVariants.{Pvalidate}
 use Rattle.rules.specs.declared.Wish.{Wish}
 use Rattle.rules.specs.declared.Wish.TheVariants.{Valid}
-use Rattle.rules.specs.Answers.{Answered}
+use Rattle.rules.specs.Answers.{Code, reads, Answered}
 use Rattle.rules.specs.Words.{bit, little, number, range, exists}
 use Rattle.rules.specs.Machine.{Lent, N, below, page_of, offset_of, page_at, zeros, valid, table_byte, vcpu}
 use Rattle.rules.specs.Lists.{in_list, list_next, list_entry, store_index, covered, coverable, read_entry, wished, carry_out, carry_out_all}
@@ -76,15 +76,15 @@ wished_valid : (vmpl b : ℕ) → valid (wished Valid vmpl b) ≡ true
 unfolding wished
 wished_valid vmpl b = simp byte·simp
 
-module _ (vmpl rcx e first n : ℕ) (wish : Wish) (m : Lent) (reads : read_entry Pvalidate vmpl rcx e m ≡ Reads first n wish) (p : ℕ)
+module _ (vmpl rcx e first n : ℕ) (wish : Wish) (m : Lent) (clean : read_entry Pvalidate vmpl rcx e m ≡ reads first n wish) (p : ℕ)
     (two : bit 2 e ≡ true) (covering : covers e p ≡ true) where
   listed : exists (eqb p) (range first n) ≡ true
-  listed = sym (covers_range (entry_read Pvalidate vmpl rcx e first n wish m reads) p) ∙ covering
+  listed = sym (covers_range (entry_read Pvalidate vmpl rcx e first n wish m clean) p) ∙ covering
 
   inside : p < N m
   unfolding coverable below
   inside =
-      let told = entry_read Pvalidate vmpl rcx e first n wish m reads in
+      let told = entry_read Pvalidate vmpl rcx e first n wish m clean in
       by_test (ltb p (N m)) (ltb-true p (N m))
       (λ t. absurd (true≢false (sym (rw t at (among (coverable vmpl rcx m) p (range first n) told.passed listed)))))
 
@@ -92,7 +92,7 @@ module _ (vmpl rcx e first n : ℕ) (wish : Wish) (m : Lent) (reads : read_entry
   validated : valid (table_byte (carry_out_all wish vmpl first n m) p) ≡ true
   unfolding carry_out_all wish_of N
   validated =
-      let told = entry_read Pvalidate vmpl rcx e first n wish m reads in
+      let told = entry_read Pvalidate vmpl rcx e first n wish m clean in
       let wishes : wish ≡ Valid = sym told.wishes ∙ rw two in
       rw (wishes, table_byte_each (wished Valid vmpl) (carry_out Valid vmpl) (carry_out_table Valid vmpl) (rising_range first n) m p listed inside)
       (wished_valid vmpl (table_byte m p))
@@ -103,7 +103,7 @@ module _ (vmpl rcx e first n : ℕ) (wish : Wish) (m : Lent) (reads : read_entry
   excused_by_bit was =
       by_test (bit 3 e) (λ t. t) (λ t.
       let test : ℕ → Bool = λ q. valid (table_byte m q) in
-      let none = every_not_exists test (covered e) ∙ ap not (validated_once vmpl rcx e first n wish m two t reads) in
+      let none = every_not_exists test (covered e) ∙ ap not (validated_once vmpl rcx e first n wish m two t clean) in
       absurd (true≢false (sym (rw was at (among (λ q. not (test q)) p (covered e) none (sym (covers_listed e p) ∙ covering))))))
 
 -- ---- a run
@@ -143,7 +143,7 @@ module _ (caller rcx p : ℕ) (m : Lent) where
   stopped k i now up from passed = absurd (omega (arith, stored_at_most k rcx now))
 
   module _ (k first n : ℕ) (wish : Wish) (now : Lent) (low : list_next rcx m ≤ k) (h : Come k now)
-      (reads : read_entry Pvalidate (vcpu now caller).vmpl rcx (list_entry k rcx now) now ≡ Reads first n wish) where
+      (clean : read_entry Pvalidate (vcpu now caller).vmpl rcx (list_entry k rcx now) now ≡ reads first n wish) where
     abbrev then : Lent
     then = carry_out_all wish (vcpu now caller).vmpl first n now
 
@@ -153,15 +153,15 @@ module _ (caller rcx p : ℕ) (m : Lent) where
         let e = list_entry k rcx now in
         by_test (covers e p)
         (λ t. by_test (bit 2 e)
-        (λ two. absurd (true≢false (sym (validated _ rcx e first n wish now reads p two t) ∙ is)))
+        (λ two. absurd (true≢false (sym (validated _ rcx e first n wish now clean p two t) ∙ is)))
         (λ two. just_invalidated k p rcx m low (rw (h.entries k) at two) (rw (h.entries k) at t)))
         (λ t. still_invalid k p rcx m (rw (h.entries k) at t)
-        (h.why (sym (ap valid (uncovered_left Pvalidate _ rcx e first n wish now reads p t).byte) ∙ is)))
+        (h.why (sym (ap valid (uncovered_left Pvalidate _ rcx e first n wish now clean p t).byte) ∙ is)))
 
     come_on : Come (suc k) then
     come_on =
         record {
-          entries = λ j. entry_kept Pvalidate _ rcx (list_entry k rcx now) first n wish now reads j ∙ h.entries j;
+          entries = λ j. entry_kept Pvalidate _ rcx (list_entry k rcx now) first n wish now clean j ∙ h.entries j;
           why = why_then;
         }
 
@@ -170,19 +170,20 @@ module _ (caller rcx p : ℕ) (m : Lent) where
     unfolding Excused
     here after from passed two covering =
         by_test (valid (table_byte now p))
-        (λ was. inl (rw (h.entries k) at (excused_by_bit _ rcx (list_entry k rcx now) first n wish now reads p
+        (λ was. inl (rw (h.entries k) at (excused_by_bit _ rcx (list_entry k rcx now) first n wish now clean p
         (rw (h.entries k) two) (rw (h.entries k) covering) was)))
         (λ was. inr (h.why was))
 
-  entry_excused : (x : Entry) (k i : ℕ) (go_on : Lent → Answered Code Lent) (now : Lent) → read_entry Pvalidate (vcpu now caller).vmpl rcx (list_entry k rcx now) now ≡ x
+  entry_excused : (x : Result Entry Refusal) (k i : ℕ) (go_on : Lent → Answered Code Lent) (now : Lent)
+      → read_entry Pvalidate (vcpu now caller).vmpl rcx (list_entry k rcx now) now ≡ x
       → ((then : Lent) → Come (suc k) then → suc k ≤ i → Excused i (go_on then).after)
       → list_next rcx m ≤ k → Come k now → k ≤ i → Excused i (after_entry x caller rcx k go_on now).after
   unfolding after_entry
-  entry_excused (Reads first n wish) k i go_on now is rest low h up =
+  entry_excused (Ok entry) k i go_on now is rest low h up =
       by_test (eqb i k)
-      (λ t. rw (eqb-true i k t) (here k first n wish now low h is _))
-      (λ t. rest _ (come_on k first n wish now low h is) (omega (arith, eqb-false i k t)))
-  entry_excused (Unread code) k i go_on now is rest low h up = stopped _ i now (omega arith)
+      (λ t. rw (eqb-true i k t) (here k entry.first entry.count entry.wish now low h is _))
+      (λ t. rest _ (come_on k entry.first entry.count entry.wish now low h is) (omega (arith, eqb-false i k t)))
+  entry_excused (Err code) k i go_on now is rest low h up = stopped _ i now (omega arith)
 
   -- a run from entry k on, of any number of entries
   pub run_excused : (todo k i : ℕ) (now : Lent) → list_next rcx m ≤ k → Come k now → k ≤ i → Excused i (run Pvalidate caller rcx todo k now).after

@@ -10,12 +10,11 @@ use lib.Dec.{eqb, ltb}
 use lib.ListN.{length, get_or}
 use borrow.Author.Tests.{eqb-true, eqb-false, ne_eqb, ltb-true, ltb-false, leb-false}
 use Rattle.rules.specs.declared.Registers.{Registers}
-use Rattle.rules.specs.declared.Code.{Code}
 use Rattle.rules.specs.declared.Outcome.{Outcome}
 use Rattle.rules.specs.declared.Outcome.TheVariants.{Handled, NoCall, Gone, BadMachine}
 use Rattle.rules.specs.declared.ListCall.{ListCall}
 use Rattle.rules.specs.declared.ListCall.TheVariants.{Pvalidate, Deposit}
-use Rattle.rules.specs.Answers.{Answered, outcome_number}
+use Rattle.rules.specs.Answers.{Code, Answered, outcome_number}
 use Rattle.rules.specs.Words.{page_size, entries_a_call, bit}
 use Rattle.rules.specs.Machine.{Lent, Machine, with_lent, N, page_of, offset_of, page_at, with_memory, write, valid, table_byte, is_live, record_at, vcpu, startup}
 use Rattle.rules.specs.Sound.{pages_sized}

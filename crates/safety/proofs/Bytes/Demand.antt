@@ -4,9 +4,9 @@ use mathlib.Core.Bool.{true}
 use mathlib.Core.List.{List, [], ◌∷◌, map}
 use Prim.Native.Nat.{ℕ, zero, suc, ◌+◌, ◌*◌, ◌^◌, ◌<◌}
 use native.Mathlib.Omega.{arith}
+use Rattle.std.specs.Prelude.{Ok}
 use Rattle.rules.specs.Words.{page_size, most_pages, records}
 use Rattle.rules.specs.declared.Registers.{Registers}
-use Rattle.rules.specs.declared.Launched.TheVariants.{Made}
 use Rattle.rules.specs.Answers.{launched_number}
 use Rattle.rules.specs.Machine.{Lent, N, startup}
 use Rattle.rules.specs.Flat.{Buffers, parted, sound_bytes, register_bytes, launch_bytes}
@@ -110,6 +110,6 @@ module _ (parts : Parts) where
   pub demand_3_by : Demand3
   unfolding Demand3 AnswersToldApart ToldApart launched_number
   demand_3_by n plan lent answered done =
-      let made = answers_told_apart.2 (launch_bytes n plan lent).answer Made answered in
+      let made = answers_told_apart.2 (launch_bytes n plan lent).answer (Ok tt) answered in
       holds n (launch_bytes n plan lent).after (launch_sound parts.launched n plan lent made) (launch_size parts.launched n plan lent made)
       (launch_empty parts.launched n plan lent made) done

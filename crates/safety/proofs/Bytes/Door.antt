@@ -7,14 +7,14 @@ use Prim.Native.Nat.{ℕ, ◌+◌, ◌*◌, ◌^◌, ◌<◌}
 use native.Mathlib.Omega.{arith}
 use lib.Dec.{eqb}
 use lib.ListN.{length}
+use Rattle.std.specs.Prelude.{Ok, Err}
 use Rattle.rules.specs.declared.Registers.{Registers}
 use Rattle.rules.specs.declared.Outcome.{Outcome}
 use Rattle.rules.specs.declared.Outcome.TheVariants.{Handled, NoCall, Gone, BadMachine}
-use Rattle.rules.specs.declared.Code.{Code}
-use Rattle.rules.specs.declared.Code.TheVariants.{Success, OneMorePage, Incomplete, UnknownProtocol, UnknownCall, Address, BadPending, Parameter}
-use Rattle.rules.specs.declared.Code.TheVariants.{Request, InUse, SizeMismatch, NoChange}
+use Rattle.rules.specs.declared.Progress.TheVariants.{Success, Incomplete}
+use Rattle.rules.specs.declared.Refusal.TheVariants.{OneMorePage, UnknownProtocol, UnknownCall, Address, BadPending, Parameter, Request, InUse, SizeMismatch, NoChange}
 use Rattle.rules.specs.Words.{page_size, records, registers_size, little, number}
-use Rattle.rules.specs.Answers.{Answered, refuse, outcome_number, code_number}
+use Rattle.rules.specs.Answers.{Code, Answered, refuse, outcome_number, code_number}
 use Rattle.rules.specs.Machine.{Lent, Machine, is_live, record_at, startup}
 use Rattle.rules.specs.Call.{Posed, with_rax, bad_sheet, bad_machine, no_call, finish, call}
 use Rattle.rules.specs.Flat.{Buffers, parted, well_sized, registers_of, register_bytes, door_bytes}
@@ -58,18 +58,18 @@ asking_back m g h =
 
 pub code_fits : (c : Code) → code_number c < 256 ^ 8
 unfolding code_number
-code_fits Success = omega arith
-code_fits OneMorePage = omega arith
-code_fits Incomplete = omega arith
-code_fits UnknownProtocol = omega arith
-code_fits UnknownCall = omega arith
-code_fits Address = omega arith
-code_fits BadPending = omega arith
-code_fits Parameter = omega arith
-code_fits Request = omega arith
-code_fits InUse = omega arith
-code_fits SizeMismatch = omega arith
-code_fits NoChange = omega arith
+code_fits (Ok Success) = omega arith
+code_fits (Err OneMorePage) = omega arith
+code_fits (Ok Incomplete) = omega arith
+code_fits (Err UnknownProtocol) = omega arith
+code_fits (Err UnknownCall) = omega arith
+code_fits (Err Address) = omega arith
+code_fits (Err BadPending) = omega arith
+code_fits (Err Parameter) = omega arith
+code_fits (Err Request) = omega arith
+code_fits (Err InUse) = omega arith
+code_fits (Err SizeMismatch) = omega arith
+code_fits (Err NoChange) = omega arith
 
 finish_fits : (caller : ℕ) (g : Registers) (a : Answered Code (Posed Registers Machine)) → (finish caller g a).answer ≡ Handled
     → (finish caller g a).after.registers.rax < 256 ^ 8

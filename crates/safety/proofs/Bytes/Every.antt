@@ -8,9 +8,8 @@ use native.Mathlib.Omega.{arith}
 use lib.Dec.{eqb}
 use lib.ListN.{length, get_or}
 use Rattle.rules.specs.declared.Registers.{Registers}
-use Rattle.rules.specs.declared.Code.{Code}
 use Rattle.rules.specs.Words.{registers_size, little, number}
-use Rattle.rules.specs.Answers.{Answered, refuse}
+use Rattle.rules.specs.Answers.{Code, Answered, refuse}
 use Rattle.rules.specs.Machine.{Lent, Machine, is_live, record_at}
 use Rattle.rules.specs.Calls.{query, configure, vtom}
 use Rattle.rules.specs.Call.{Posed, with_rax, with_rcx, on_lent, on_rcx, handle, finish, call}

@@ -7,11 +7,11 @@ use native.Mathlib.Omega.{arith}
 use lib.Dec.{eqb}
 use lib.ListN.{length, length-map}
 use borrow.Author.Tests.{eqb-true}
+use Rattle.std.specs.Prelude.{Ok, Err}
 use Rattle.rules.specs.declared.Registers.{Registers}
-use Rattle.rules.specs.declared.Launched.{Launched}
-use Rattle.rules.specs.declared.Launched.TheVariants.{Made, WrongSize}
+use Rattle.rules.specs.declared.LaunchError.TheVariants.{WrongSize}
 use Rattle.rules.specs.declared.Plan.{Plan}
-use Rattle.rules.specs.Answers.{Answered, refuse, launched_number}
+use Rattle.rules.specs.Answers.{Launched, Answered, refuse, launched_number}
 use Rattle.rules.specs.Machine.{Lent, Machine, with_lent, N, below, with_memory, write, table_byte, record_at, amend}
 use Rattle.rules.specs.Words.{range}
 use Rattle.rules.specs.Launch.{launch_byte, launch_table, made, launch}
@@ -102,7 +102,7 @@ module _ (kept : StaysSound) where
 -- ---- launch
 
 -- one that is made on bytes was lent n pages, all of right size, and is the launch on the machine that they are
-pub launch_told : (n : ℕ) (plan : Plan) (b : Buffers) → (launch_bytes n plan b).answer ≡ Made →
+pub launch_told : (n : ℕ) (plan : Plan) (b : Buffers) → (launch_bytes n plan b).answer ≡ Ok tt →
     let l = launch plan (record { lent = parted b }) in
     (well_sized b ≡ true) × (n ≡ length b.table) × (launch_bytes n plan b ≡ record { answer = l.answer; after = joined l.after.lent })
 unfolding launch_bytes refuse launched_number
@@ -111,20 +111,20 @@ launch_told n plan b e =
     (λ t.
     let both = (and-eq-true_iff (well_sized b) (eqb n (length b.table))).0 t in
     (both.0, eqb-true n (length b.table) both.1, rw t))
-    (λ t. not_made WrongSize (omega arith) (rw t at e))
+    (λ t. not_made (Err WrongSize) (omega arith) (rw t at e))
 
 -- launch keeps how many pages there are
-launched_size : (plan : Plan) (m : Machine) → (launch plan m).answer ≡ Made → length (launch plan m).after.lent.table ≡ length m.lent.table
+launched_size : (plan : Plan) (m : Machine) → (launch plan m).answer ≡ Ok tt → length (launch plan m).after.lent.table ≡ length m.lent.table
 unfolding made launch_table write with_memory N
 launched_size plan m e =
     let pages = length m.lent.table in
     rw (launch_made plan m e).after (length-map (range 0 pages) (launch_byte plan) ∙ length_range 0 pages)
 
-module _ (made : LaunchedSound) (n : ℕ) (plan : Plan) (b : Buffers) (e : (launch_bytes n plan b).answer ≡ Made) where
+module _ (made : LaunchedSound) (n : ℕ) (plan : Plan) (b : Buffers) (e : (launch_bytes n plan b).answer ≡ Ok tt) where
   abbrev launched : Answered Launched Machine
   launched = launch plan (record { lent = parted b })
 
-  made_there : launched.answer ≡ Made
+  made_there : launched.answer ≡ Ok tt
   made_there = sym (ap (λ a. a.answer) (launch_told n plan b e).2) ∙ e
 
   sound_there : sound launched.after.lent ≡ true

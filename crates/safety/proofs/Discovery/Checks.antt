@@ -6,12 +6,12 @@ use Prim.Native.Nat.{ℕ, ◌+◌, ◌%◌, ◌^◌, ◌<◌, ◌≤◌}
 use native.Mathlib.Omega.{arith}
 use lib.Dec.{eqb, leb, ltb}
 use borrow.Author.Tests.{eqb-true, eqb-false, eq-eqb, ne_eqb, leb-false, ltb-false, lt-leb, le-leb, not-false}
+use Rattle.std.specs.Prelude.{Err}
 use Rattle.rules.specs.declared.Discovery.{Discovery}
-use Rattle.rules.specs.declared.Located.{Located}
-use Rattle.rules.specs.declared.Located.TheVariants.{UnalignedBase, UnalignedSize, UnalignedArea, PastEnd, AreaInside}
+use Rattle.rules.specs.declared.DiscoveryError.TheVariants.{UnalignedBase, UnalignedSize, UnalignedArea, PastEnd, AreaInside}
 use Rattle.rules.specs.Words.{page_size, multiple}
 use Rattle.rules.specs.Answers.{Answered, refuse}
-use Rattle.rules.specs.Discovery.{located_number, past_end, area_inside, refuse_range}
+use Rattle.rules.specs.Discovery.{Located, located_number, past_end, area_inside, refuse_range}
 use Rattle.laws.proofs.Ranges.{by_test}
 use Rattle.safety.specs.Discovery.{Whole, Apart, Fit, RefusedAs, by_base, by_size, by_area, by_end, by_inside, by_none}
 use Rattle.safety.proofs.Branches.{passed}
@@ -65,11 +65,11 @@ module _ {B : Type 0} (now : B) (d : Discovery) (rest : Answered Located B) wher
   pub range_told : answered (refuse_range now d rest) ≡ 0 → Passes d × (answered rest ≡ 0)
   unfolding refuse_range located_number
   range_told e =
-      let base = told_past now _ UnalignedBase _ (omega arith) e in
-      let size = told_past now _ UnalignedSize _ (omega arith) base.1 in
-      let area = told_past now _ UnalignedArea _ (omega arith) size.1 in
-      let end = told_past now _ PastEnd _ (omega arith) area.1 in
-      let inside = told_past now _ AreaInside _ (omega arith) end.1 in (
+      let base = told_past now _ (Err UnalignedBase) _ (omega arith) e in
+      let size = told_past now _ (Err UnalignedSize) _ (omega arith) base.1 in
+      let area = told_past now _ (Err UnalignedArea) _ (omega arith) size.1 in
+      let end = told_past now _ (Err PastEnd) _ (omega arith) area.1 in
+      let inside = told_past now _ (Err AreaInside) _ (omega arith) end.1 in (
         record {
           base_passes = base.0;
           size_passes = size.0;
@@ -84,7 +84,9 @@ module _ {B : Type 0} (now : B) (d : Discovery) (rest : Answered Located B) wher
   pub range_kept : KeptOrTold now rest → KeptOrTold now (refuse_range now d rest)
   unfolding refuse_range
   range_kept h =
-      kept_past now _ UnalignedBase _ (kept_past now _ UnalignedSize _ (kept_past now _ UnalignedArea _ (kept_past now _ PastEnd _ (kept_past now _ AreaInside _ h))))
+      kept_past now _ (Err UnalignedBase) _
+      (kept_past now _ (Err UnalignedSize) _
+      (kept_past now _ (Err UnalignedArea) _ (kept_past now _ (Err PastEnd) _ (kept_past now _ (Err AreaInside) _ h))))
 
   -- and passed they leave the rest
   pub range_passed : Passes d → refuse_range now d rest ≡ rest
@@ -164,25 +166,25 @@ module _ (d : Discovery) where
 
   -- whole numbers pass three checks
   whole_passed : {B : Type 0} (now : B) (rest : Answered Located B) → Whole d.base d.size d.area
-      → refuse now (not (multiple page_size d.base)) UnalignedBase
-      (refuse now (not (multiple page_size d.size)) UnalignedSize (refuse now (not (multiple page_size d.area)) UnalignedArea rest))
+      → refuse now (not (multiple page_size d.base)) (Err UnalignedBase)
+      (refuse now (not (multiple page_size d.size)) (Err UnalignedSize) (refuse now (not (multiple page_size d.area)) (Err UnalignedArea) rest))
       ≡ rest
   whole_passed now rest w =
-      passed now _ UnalignedBase _ (of_whole _ w.base_whole) ∙ passed now _ UnalignedSize _ (of_whole _ w.size_whole)
-      ∙ passed now _ UnalignedArea _ (of_whole _ w.area_whole)
+      passed now _ (Err UnalignedBase) _ (of_whole _ w.base_whole) ∙ passed now _ (Err UnalignedSize) _ (of_whole _ w.size_whole)
+      ∙ passed now _ (Err UnalignedArea) _ (of_whole _ w.area_whole)
 
   -- the first of the five that fails is the answer; or all pass, and size is 0
   pub range_refused : {B : Type 0} (now : B) (rest : Answered Located B) (k : ℕ) → RefusedAs d.base d.size d.area k
       → (answered (refuse_range now d rest) ≡ k) ⊎ (Passes d × (d.size ≡ 0) × (k ≡ 6))
   unfolding refuse_range located_number
-  range_refused now rest _ (by_base other) = inl (stops now _ UnalignedBase _ (of_unaligned _ other))
+  range_refused now rest _ (by_base other) = inl (stops now _ (Err UnalignedBase) _ (of_unaligned _ other))
   range_refused now rest _ (by_size base other) =
-      inl (ap answered (passed now _ UnalignedBase _ (of_whole _ base)) ∙ stops now _ UnalignedSize _ (of_unaligned _ other))
+      inl (ap answered (passed now _ (Err UnalignedBase) _ (of_whole _ base)) ∙ stops now _ (Err UnalignedSize) _ (of_unaligned _ other))
   range_refused now rest _ (by_area base size other) =
       inl
-      (ap answered (passed now _ UnalignedBase _ (of_whole _ base) ∙ passed now _ UnalignedSize _ (of_whole _ size))
-      ∙ stops now _ UnalignedArea _ (of_unaligned _ other))
-  range_refused now rest _ (by_end w past) = inl (ap answered (whole_passed now _ w) ∙ stops now _ PastEnd _ (of_past past))
+      (ap answered (passed now _ (Err UnalignedBase) _ (of_whole _ base) ∙ passed now _ (Err UnalignedSize) _ (of_whole _ size))
+      ∙ stops now _ (Err UnalignedArea) _ (of_unaligned _ other))
+  range_refused now rest _ (by_end w past) = inl (ap answered (whole_passed now _ w) ∙ stops now _ (Err PastEnd) _ (of_past past))
   range_refused now rest _ (by_inside w within low high) =
-      inl (ap answered (whole_passed now _ w ∙ passed now _ PastEnd _ (of_end within)) ∙ stops now _ AreaInside _ (of_inside low high))
+      inl (ap answered (whole_passed now _ w ∙ passed now _ (Err PastEnd) _ (of_end within)) ∙ stops now _ (Err AreaInside) _ (of_inside low high))
   range_refused now rest _ (by_none apart none) = inr (of_apart apart, none, refl)

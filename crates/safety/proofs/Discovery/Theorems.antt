@@ -9,16 +9,15 @@ use lib.Dec.{eqb, leb, ltb}
 use lib.ListN.{length}
 use lib.Seq.{sets, length-sets}
 use borrow.Author.Tests.{eqb-true, eqb-false, eq-eqb, ne_eqb, ltb-false, not-false}
+use Rattle.std.specs.Prelude.{Ok, Err}
 use Rattle.rules.specs.declared.Plan.{Plan}
 use Rattle.rules.specs.declared.Discovery.{Discovery}
-use Rattle.rules.specs.declared.Located.{Located}
-use Rattle.rules.specs.declared.Located.TheVariants.{Told, UnalignedBase, UnalignedSize, UnalignedArea, PastEnd, AreaInside, NoMonitor, WrongLength}
-use Rattle.rules.specs.declared.Launched.TheVariants.{Made}
+use Rattle.rules.specs.declared.DiscoveryError.TheVariants.{UnalignedBase, UnalignedSize, UnalignedArea, PastEnd, AreaInside, NoMonitor, WrongLength}
 use Rattle.rules.specs.Words.{page_size, most_pages, number}
 use Rattle.rules.specs.Answers.{Answered, refuse, launched_number}
 use Rattle.rules.specs.Launch.{in_monitor, out_of_range, areas_meet}
 use Rattle.rules.specs.Flat.{parted, launch_bytes}
-use Rattle.rules.specs.Discovery.{located_number, discovery_of, discovery_bytes, fields_size, announce, discover}
+use Rattle.rules.specs.Discovery.{Located, located_number, discovery_of, discovery_bytes, fields_size, announce, discover}
 use Rattle.rules.specs.Promises.{AnnouncePromise, DiscoverPromise, MonitorAnnouncePromise, MonitorDiscoverPromise}
 use Rattle.laws.proofs.Numbers.{number_below, getD_sets_elsewhere}
 use Rattle.laws.proofs.Ranges.{by_test, or_false}
@@ -56,14 +55,14 @@ module _ (base size area vmpl : ℕ) where
     writer_passed : located_number (announce base size area vmpl page).answer ≡ 0 → (length page ≡ 4096) × Fit base size area
     unfolding announce located_number page_size
     writer_passed e =
-        let sized = told_past page _ WrongLength _ (omega arith) e in
+        let sized = told_past page _ (Err WrongLength) _ (omega arith) e in
         let range = range_told page _ _ sized.1 in
-        let some = told_past page _ NoMonitor _ (omega arith) range.1 in
+        let some = told_past page _ (Err NoMonitor) _ (omega arith) range.1 in
         (eqb-true _ _ (not-false _ sized.0), fit_of _ range.0 some.0)
 
     -- what it then leaves
     abbrev written : Answered Located (List ℕ)
-    written = record { answer = Told; after = sets page 0x140 (discovery_bytes given) }
+    written = record { answer = Ok tt; after = sets page 0x140 (discovery_bytes given) }
 
     -- and in a page of right length what is fit is written
     writer_told : length page ≡ 4096 → Fit base size area → announce base size area vmpl page ≡ written
@@ -79,9 +78,9 @@ pub writer_answers : WriterAnswers
 unfolding WriterAnswers announce located_number page_size
 writer_answers base size area vmpl page =
     let d = given base size area vmpl in (
-      λ other. stops page _ WrongLength _ (rw (ne_eqb _ _ other)),
-      λ k sized refused. ap answered (passed page _ WrongLength _ (rw (eq-eqb _ _ sized)))
-          ∙ ⊎_elim (λ e. e) (λ left. ap answered (range_passed page d _ left.0) ∙ stops page _ NoMonitor _ (eq-eqb _ _ left.1) ∙ sym left.2)
+      λ other. stops page _ (Err WrongLength) _ (rw (ne_eqb _ _ other)),
+      λ k sized refused. ap answered (passed page _ (Err WrongLength) _ (rw (eq-eqb _ _ sized)))
+          ∙ ⊎_elim (λ e. e) (λ left. ap answered (range_passed page d _ left.0) ∙ stops page _ (Err NoMonitor) _ (eq-eqb _ _ left.1) ∙ sym left.2)
           (range_refused d page _ k refused),
     )
 
@@ -101,7 +100,7 @@ pub writer_refuses : WriterRefuses
 unfolding WriterRefuses announce located_number
 writer_refuses base size area vmpl page refused =
     kept_refused page (announce base size area vmpl page)
-    (kept_past page _ WrongLength _ (range_kept page _ _ (kept_past page _ NoMonitor _ (inr refl)))) refused
+    (kept_past page _ (Err WrongLength) _ (range_kept page _ _ (kept_past page _ (Err NoMonitor) _ (inr refl)))) refused
 
 -- ---- the reader
 
@@ -115,15 +114,15 @@ module _ (page fields : List ℕ) where
       → (length page ≡ 4096) × (length fields ≡ 32) × Fit seen.base seen.size seen.area
   unfolding discover located_number page_size fields_size
   reader_passed e =
-      let sized = told_past fields _ WrongLength _ (omega arith) e in
+      let sized = told_past fields _ (Err WrongLength) _ (omega arith) e in
       let both = (and-eq-true_iff (eqb (length page) 4096) (eqb (length fields) 32)).0 (not-false _ sized.0) in
-      let some = told_past fields _ NoMonitor _ (omega arith) sized.1 in
+      let some = told_past fields _ (Err NoMonitor) _ (omega arith) sized.1 in
       let range = range_told fields _ _ some.1 in
       (eqb-true _ _ both.0, eqb-true _ _ both.1, fit_of _ range.0 some.0)
 
   -- and with right lengths what is fit is handed out
   reader_told : length page ≡ 4096 → length fields ≡ 32 → Fit seen.base seen.size seen.area
-      → discover page fields ≡ record { answer = Told; after = discovery_bytes seen }
+      → discover page fields ≡ record { answer = Ok tt; after = discovery_bytes seen }
   unfolding discover refuse page_size fields_size
   reader_told sized room fit =
       let passes = passes_of seen fit in
@@ -141,9 +140,9 @@ reader_takes page fields = (reader_passed page fields, λ sized room fit. rw (re
 pub reader_answers : ReaderAnswers
 unfolding ReaderAnswers discover located_number page_size fields_size discovery_of
 reader_answers page fields = (
-  λ other. stops fields _ WrongLength _ (unsized page fields other),
-  λ k sized room some refused. ap answered (passed fields _ WrongLength _ (rw (eq-eqb _ _ sized, eq-eqb _ _ room)))
-      ∙ ap answered (passed fields _ NoMonitor _ (ne_eqb (number 8 page 0x148) 0 (omega (arith, some))))
+  λ other. stops fields _ (Err WrongLength) _ (unsized page fields other),
+  λ k sized room some refused. ap answered (passed fields _ (Err WrongLength) _ (rw (eq-eqb _ _ sized, eq-eqb _ _ room)))
+      ∙ ap answered (passed fields _ (Err NoMonitor) _ (ne_eqb (number 8 page 0x148) 0 (omega (arith, some))))
       ∙ ⊎_elim (λ e. e) (λ left. absurd (omega (arith, some, left.1))) (range_refused (discovery_of page) fields _ k refused),
 )
 
@@ -159,12 +158,12 @@ pub reader_refuses : ReaderRefuses
 unfolding ReaderRefuses discover located_number
 reader_refuses page fields refused =
     kept_refused fields (discover page fields)
-    (kept_past fields _ WrongLength _ (kept_past fields _ NoMonitor _ (range_kept fields _ _ (inr refl)))) refused
+    (kept_past fields _ (Err WrongLength) _ (kept_past fields _ (Err NoMonitor) _ (range_kept fields _ _ (inr refl)))) refused
 
 pub size_0_is_no_monitor : Size0IsNoMonitor
 unfolding Size0IsNoMonitor discover located_number page_size fields_size discovery_of
 size_0_is_no_monitor page fields sized room none =
-    ap answered (passed fields _ WrongLength _ (rw (eq-eqb _ _ sized, eq-eqb _ _ room))) ∙ stops fields _ NoMonitor _ (eq-eqb _ _ none)
+    ap answered (passed fields _ (Err WrongLength) _ (rw (eq-eqb _ _ sized, eq-eqb _ _ room))) ∙ stops fields _ (Err NoMonitor) _ (eq-eqb _ _ none)
 
 -- ---- both
 
@@ -234,7 +233,7 @@ module _ (plan : Plan) (n : ℕ) (few : n ≤ most_pages) (within : out_of_range
 pub launch_read_back : LaunchReadBack
 unfolding LaunchReadBack launched_number AnswersToldApart ToldApart WriterTakes ReadBack
 launch_read_back n plan lent page fields zero sized room =
-    let made = answers_told_apart.2 (launch_bytes n plan lent).answer Made zero in
+    let made = answers_told_apart.2 (launch_bytes n plan lent).answer (Ok tt) zero in
     let told = launch_told n plan lent made in
     let fit = launch_made plan (record { lent = parted lent }) (sym (ap (λ a. a.answer) told.2) ∙ made) in
     let few = few_pages (parted lent) (parted_sized lent told.0).tables in
@@ -262,24 +261,24 @@ monitor_discover_determined page lent = determined _
 
 find_located : ℕ → Located
 find_located n =
-    cond (eqb n 0) Told
-    (cond (eqb n 1) UnalignedBase
-    (cond (eqb n 2) UnalignedSize
-    (cond (eqb n 3) UnalignedArea
-    (cond (eqb n 4) PastEnd
-    (cond (eqb n 5) AreaInside
-    (cond (eqb n 6) NoMonitor WrongLength))))))
+    cond (eqb n 0) (Ok tt)
+    (cond (eqb n 1) (Err UnalignedBase)
+    (cond (eqb n 2) (Err UnalignedSize)
+    (cond (eqb n 3) (Err UnalignedArea)
+    (cond (eqb n 4) (Err PastEnd)
+    (cond (eqb n 5) (Err AreaInside)
+    (cond (eqb n 6) (Err NoMonitor) (Err WrongLength)))))))
 
 located_found : (a : Located) → find_located (located_number a) ≡ a
 unfolding find_located located_number
-located_found Told = refl
-located_found UnalignedBase = refl
-located_found UnalignedSize = refl
-located_found UnalignedArea = refl
-located_found PastEnd = refl
-located_found AreaInside = refl
-located_found NoMonitor = refl
-located_found WrongLength = refl
+located_found (Ok told) = refl
+located_found (Err UnalignedBase) = refl
+located_found (Err UnalignedSize) = refl
+located_found (Err UnalignedArea) = refl
+located_found (Err PastEnd) = refl
+located_found (Err AreaInside) = refl
+located_found (Err NoMonitor) = refl
+located_found (Err WrongLength) = refl
 
 pub located_told_apart : LocatedToldApart
 unfolding LocatedToldApart

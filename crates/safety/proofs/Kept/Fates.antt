@@ -7,7 +7,8 @@ use native.Mathlib.Omega.{arith}
 use lib.Dec.{eqb, ltb}
 use lib.ListN.{length}
 use borrow.Author.Tests.{eqb-true, eqb-false, ltb-true, ne_eqb}
-use Rattle.rules.specs.declared.Code.TheVariants.{Success}
+use Rattle.std.specs.Prelude.{Ok}
+use Rattle.rules.specs.declared.Progress.TheVariants.{Success}
 use Rattle.rules.specs.Machine.{Lent, N, owner, grant, own, revoke, table_byte, change, page_of, is_live, holds, needs_page}
 use Rattle.rules.specs.Machine.{record_at, vcpu}
 use Rattle.rules.specs.Calls.{remapped, remap, Asked, free_page, created, create, clear_svme, deleted, delete}
@@ -158,7 +159,7 @@ module _ {E : Type 0} (caller rcx p : ℕ) (m : Lent) (g : guarded m p ≡ true)
 
   -- Delete
   pub delete_fate : ((i : ℕ) → i < length m.sheet → is_live (record_at m i) ≡ true → Owned i m)
-      → ((delete caller rcx m).answer ≡ Success → owner (table_byte m p) ≡ 5 → p ≡ page_of rcx → E)
+      → ((delete caller rcx m).answer ≡ Ok Success → owner (table_byte m p) ≡ 5 → p ≡ page_of rcx → E)
       → Fate E p m (delete caller rcx m).after
   delete_fate owned excuse =
       past_delete caller rcx m (Fate E p m) (same untouched_here) (λ fit.

@@ -5,11 +5,11 @@ use Prim.Native.Nat.{ℕ, ◌≤◌}
 use native.Mathlib.Omega.{arith}
 use lib.Dec.{eqb}
 use borrow.Author.Tests.{eq-eqb}
+use Rattle.std.specs.Prelude.{Ok}
 use Rattle.rules.specs.Words.{multiple, exists}
 use Rattle.rules.specs.declared.Registers.{Registers}
-use Rattle.rules.specs.declared.Code.{Code}
-use Rattle.rules.specs.declared.Code.TheVariants.{Success}
-use Rattle.rules.specs.Answers.{Answered, code_number, outcome_number}
+use Rattle.rules.specs.declared.Progress.TheVariants.{Success}
+use Rattle.rules.specs.Answers.{Code, Answered, code_number, outcome_number}
 use Rattle.rules.specs.Machine.{Lent, Machine, with_lent, with_memory, page_of, offset_of, write, table_byte, owned_by, is_live, record_at, vcpu, startup}
 use Rattle.rules.specs.Lists.{list_count, list_entry}
 use Rattle.rules.specs.Calls.{withdrawn_pages, withdrawn}
@@ -60,7 +60,7 @@ module _ (caller : ℕ) (g : Registers) (a : Answered Code (Posed Registers Mach
   finish_owner p o = by_test (is_live (record_at a.after.machine.lent caller)) (λ t. rw t) (λ t. rw t)
 
   -- a call with code 0 by a caller that lives on has succeeded
-  finish_succeeds : is_live (record_at a.after.machine.lent caller) ≡ true → a.answer ≡ Success → succeeded_by (finish caller g a) ≡ true
+  finish_succeeds : is_live (record_at a.after.machine.lent caller) ≡ true → a.answer ≡ Ok Success → succeeded_by (finish caller g a) ≡ true
   unfolding finish succeeded_by with_rax code_number outcome_number
   finish_succeeds live e = rw (live, e)
 
@@ -75,7 +75,7 @@ module _ (caller : ℕ) (g : Registers) (a : Answered Code (Posed Registers Mach
         }
 
     -- a Withdraw that succeeded is excused for a page that it gave back
-    pub finish_gives : Asks 5 g → a.answer ≡ Success → given_back_by p g (finish caller g a) ≡ true
+    pub finish_gives : Asks 5 g → a.answer ≡ Ok Success → given_back_by p g (finish caller g a) ≡ true
     unfolding given_back_by asks_for
     finish_gives asks e =
         simp (

@@ -8,12 +8,12 @@ use native.Mathlib.Omega.{arith}
 use lib.Dec.{eqb, ltb, leb}
 use lib.ListN.{length}
 use borrow.Author.Tests.{eqb-true, eqb-false, eq-eqb, ltb-true, not-false}
+use Rattle.std.specs.Prelude.{Ok}
 use Rattle.rules.specs.Words.{page_size, records, entries_a_call, multiple, exists}
 use Rattle.rules.specs.declared.Registers.{Registers}
-use Rattle.rules.specs.declared.Code.{Code}
-use Rattle.rules.specs.declared.Code.TheVariants.{Success}
+use Rattle.rules.specs.declared.Progress.TheVariants.{Success}
 use Rattle.rules.specs.declared.ListCall.TheVariants.{Pvalidate, Deposit}
-use Rattle.rules.specs.Answers.{Answered, refuse, code_number}
+use Rattle.rules.specs.Answers.{Code, Answered, refuse, code_number}
 use Rattle.rules.specs.Machine.{Lent, Machine, with_lent, below, owner, valid, permitted, table_byte, page_of, offset_of}
 use Rattle.rules.specs.Machine.{is_live, record_at, vcpu, startup, with_memory, write}
 use Rattle.rules.specs.Steps.{may_store, store, mark}
@@ -55,7 +55,7 @@ module _ (each : EachKeeps Sound) (owned : (m : Lent) → Sound m → (i : ℕ) 
     -- the same of a call that was handled with this answer
     HandledExcuse : Code → Lent → Type 0
     HandledExcuse code after =
-        (code ≡ Success)
+        (code ≡ Ok Success)
         × (((owner (table_byte m.lent p) ≡ 5) × Asks 3 g × (p ≡ page_of g.rcx))
         ⊎ ((owner (table_byte m.lent p) ≡ 3) × Asks 5 g × Given caller g.rcx p after))
 
@@ -117,7 +117,7 @@ module _ (each : EachKeeps Sound) (owned : (m : Lent) → Sound m → (i : ℕ) 
       (λ t. rw t (write_elsewhere p (vcpu m 0).calling 1 _ m flag))
 
   -- a call that answered success is done well
-  finish_well : (caller : ℕ) (before : Registers) (a : Answered Code (Posed Registers Machine)) → a.answer ≡ Success
+  finish_well : (caller : ℕ) (before : Registers) (a : Answered Code (Posed Registers Machine)) → a.answer ≡ Ok Success
       → done_well (finish caller before a).answer (finish caller before a).after.registers ≡ true
   unfolding finish done_well with_rax code_number
   finish_well caller before a e =

@@ -5,11 +5,11 @@ use mathlib.Core.List.{[], ◌∷◌}
 use Prim.Native.Nat.{ℕ, ◌+◌, ◌*◌, ◌%◌, ◌<◌}
 use native.Mathlib.Omega.{arith}
 use borrow.Author.Tests.{lt-ltb, eq-eqb}
+use Rattle.std.specs.Prelude.{Ok}
 use Rattle.rules.specs.Words.{page_size, records, bits, multiple}
 use Rattle.rules.specs.declared.Registers.{Registers}
 use Rattle.rules.specs.declared.Outcome.TheVariants.{Handled}
-use Rattle.rules.specs.declared.Code.TheVariants.{Success}
-use Rattle.rules.specs.declared.Verdict.TheVariants.{Done}
+use Rattle.rules.specs.declared.Progress.TheVariants.{Success}
 use Rattle.rules.specs.Answers.{refuse, code_number}
 use Rattle.rules.specs.Machine.{Lent, with_lent, N, below, page_of, offset_of, write, owner, valid, permitted, table_byte, owned_by, usable}
 use Rattle.rules.specs.Machine.{is_live, record_at, vcpu, startup}
@@ -71,7 +71,7 @@ module _ (m : Lent) (s : Sound m) (mine : owner (table_byte m (startup m).callin
   calling_allowed = rw (calling_valid, mine) at (s.pages (startup m).calling calling_inside).allowed
 
   -- the store is done
-  pub stored : store (startup m).vmpl (startup m).calling 0 (1 ∷ []) m ≡ record { answer = Done; after = write (startup m).calling 0 (1 ∷ []) m }
+  pub stored : store (startup m).vmpl (startup m).calling 0 (1 ∷ []) m ≡ record { answer = Ok tt; after = write (startup m).calling 0 (1 ∷ []) m }
   unfolding store may_store refuse below page_size
   stored = rw (lt-ltb _ _ calling_inside, calling_valid, calling_allowed)
 
@@ -82,7 +82,7 @@ module _ (m : Lent) (s : Sound m) (mine : owner (table_byte m (startup m).callin
 
   -- Withdraw succeeds
   pub withdraw_done : withdraw 0 (page_size * (startup m).calling + 8) m
-      ≡ record { answer = Success; after = withdrawn (startup m).vmpl (page_size * (startup m).calling + 8) m }
+      ≡ record { answer = Ok Success; after = withdrawn (startup m).vmpl (page_size * (startup m).calling + 8) m }
   unfolding withdraw refuse startup
   withdraw_done = rw (list_multiple (startup m).calling, list_offset (startup m).calling, good_list_page)
 
@@ -102,7 +102,7 @@ module _ (m : Lent) (s : Sound m) (mine : owner (table_byte m (startup m).callin
 
     handled : handle 0 (record { registers = asking m g; machine = record { lent = m } })
         ≡ record {
-          answer = Success;
+          answer = Ok Success;
           after = record { registers = asking m g; machine = record { lent = withdrawn (startup m).vmpl (page_size * (startup m).calling + 8) m } };
         }
     unfolding handle dispatch refuse on_lent with_lent asking

@@ -10,8 +10,7 @@ use lib.ListN.{length}
 use borrow.Author.Tests.{ltb-true, ltb-false, eqb-true, eqb-false}
 use Rattle.rules.specs.Words.{page_size, records, multiple, little, number}
 use Rattle.rules.specs.declared.Registers.{Registers}
-use Rattle.rules.specs.declared.Code.{Code}
-use Rattle.rules.specs.Answers.{Answered}
+use Rattle.rules.specs.Answers.{Code, Answered}
 use Rattle.rules.specs.Machine.{Lent, Machine, with_lent, page_of, offset_of, page_at, write, with_memory, is_live, record_at, vcpu, startup}
 use Rattle.rules.specs.Lists.{in_list, list_next}
 use Rattle.rules.specs.Calls.{any_free}

@@ -5,11 +5,11 @@ use mathlib.Core.List.{List, [], ◌∷◌}
 use Prim.Native.Nat.{ℕ, zero, suc, ◌+◌, ◌-◌, ◌<◌, ◌≤◌}
 use native.Mathlib.Omega.{arith}
 use lib.Dec.{eqb}
+use Rattle.std.specs.Prelude.{Result, Ok, Err}
 use Rattle.rules.specs.Words.{large, little, range, bit, bits}
-use Rattle.rules.specs.Answers.{Answered}
-use Rattle.rules.specs.declared.Code.{Code}
+use Rattle.rules.specs.Answers.{Code, Answered}
 use Rattle.rules.specs.declared.Entry.{Entry}
-use Rattle.rules.specs.declared.Entry.TheVariants.{Reads, Unread}
+use Rattle.rules.specs.declared.Refusal.{Refusal}
 use Rattle.rules.specs.declared.ListCall.TheVariants.{Pvalidate, Deposit}
 use Rattle.rules.specs.declared.Wish.{Wish}
 use Rattle.rules.specs.declared.Wish.TheVariants.{Pool}
@@ -167,10 +167,11 @@ module _ (caller rcx : ℕ) where
           counted = omega (arith, d.counted);
         }
 
-    deposit_entry : (x : Entry) → read_entry Deposit (vcpu m caller).vmpl rcx e m ≡ x → Deposited rcx (suc todo) k m (after_entry x caller rcx k go_on m).after
+    deposit_entry : (x : Result Entry Refusal) → read_entry Deposit (vcpu m caller).vmpl rcx e m ≡ x
+        → Deposited rcx (suc todo) k m (after_entry x caller rcx k go_on m).after
     unfolding after_entry
-    deposit_entry (Reads first n wish) told = goes_on _ first n wish (entry_read Deposit _ rcx e first n wish m told)
-    deposit_entry (Unread code) told = stopped (suc todo) k m
+    deposit_entry (Ok entry) told = goes_on _ entry.first entry.count entry.wish (entry_read Deposit _ rcx e entry.first entry.count entry.wish m told)
+    deposit_entry (Err code) told = stopped (suc todo) k m
 
   -- a run of Deposit
   pub run_deposits : (todo k : ℕ) (m : Lent) → Deposited rcx todo k m (run Deposit caller rcx todo k m).after

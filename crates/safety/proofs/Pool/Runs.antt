@@ -5,9 +5,9 @@ use mathlib.Core.List.{List, [], ◌∷◌, map}
 use Prim.Native.Nat.{ℕ, ◌+◌}
 use native.Mathlib.Omega.{arith}
 use lib.Dec.{ltb, eqb}
+use Rattle.std.specs.Prelude.{Ok}
 use Rattle.rules.specs.Words.{range, count, bits}
 use Rattle.rules.specs.declared.Plan.{Plan}
-use Rattle.rules.specs.declared.Launched.TheVariants.{Made}
 use Rattle.rules.specs.Machine.{Lent, Machine, N, owner}
 use Rattle.rules.specs.Sound.{table_sized, pages_sized, sound}
 use Rattle.rules.specs.Launch.{in_monitor, launch_byte, launch_table, made, launch}
@@ -50,14 +50,14 @@ unfolding made launch_table
 made_empty plan m = pool_write _ _ _ _ ∙ pool_counts _ ∙ launched_none plan (range 0 (N m))
 
 -- a machine that launch made has no pool
-pub launched_empty : (plan : Plan) (m : Machine) → (launch plan m).answer ≡ Made → pool (launch plan m).after.lent ≡ 0
+pub launched_empty : (plan : Plan) (m : Machine) → (launch plan m).answer ≡ Ok tt → pool (launch plan m).after.lent ≡ 0
 launched_empty plan m e = rw (launch_made plan m e).after (made_empty plan m.lent)
 
 -- statement 4 from launch, if runs stay sound and launch gives a sound machine
 pub counted_from_launch_by : ((steps : List Step) (m : Machine) → sound m.lent ≡ true → sound (run_steps steps m).lent ≡ true)
-    → ((plan : Plan) (m : Machine) → table_sized m.lent ≡ true → pages_sized m.lent ≡ true → (launch plan m).answer ≡ Made
+    → ((plan : Plan) (m : Machine) → table_sized m.lent ≡ true → pages_sized m.lent ≡ true → (launch plan m).answer ≡ Ok tt
     → sound (launch plan m).after.lent ≡ true)
-    → (plan : Plan) (m : Machine) (ss : List Step) → table_sized m.lent ≡ true → pages_sized m.lent ≡ true → (launch plan m).answer ≡ Made
+    → (plan : Plan) (m : Machine) (ss : List Step) → table_sized m.lent ≡ true → pages_sized m.lent ≡ true → (launch plan m).answer ≡ Ok tt
     → pool (run_steps ss (launch plan m).after).lent + over_run given_back ss (launch plan m).after ≡ over_run taken_in ss (launch plan m).after
 counted_from_launch_by stays launched plan m ss t p e =
     omega (arith, run_counted_by stays ss (launch plan m).after (launched plan m t p e), launched_empty plan m e)

@@ -6,13 +6,14 @@ use native.Mathlib.Omega.{arith}
 use lib.Dec.{ltb, eqb}
 use lib.ListN.{length}
 use borrow.Author.Tests.{ltb-false, leb-false, ne_eqb, not-true, not-false}
+use Rattle.std.specs.Prelude.{Ok, Err}
 use Rattle.rules.specs.Words.{page_size, entries_a_call, multiple, range}
-use Rattle.rules.specs.Answers.{Answered, refuse, code_number, outcome_number}
+use Rattle.rules.specs.Answers.{Code, Answered, refuse, code_number, outcome_number}
 use Rattle.rules.specs.declared.Registers.{Registers}
 use Rattle.rules.specs.declared.Outcome.{Outcome}
 use Rattle.rules.specs.declared.Outcome.TheVariants.{Handled, NoCall, BadMachine}
-use Rattle.rules.specs.declared.Code.{Code}
-use Rattle.rules.specs.declared.Code.TheVariants.{Success, BadPending, Parameter, Address}
+use Rattle.rules.specs.declared.Progress.TheVariants.{Success}
+use Rattle.rules.specs.declared.Refusal.TheVariants.{BadPending, Parameter, Address}
 use Rattle.rules.specs.declared.ListCall.{ListCall}
 use Rattle.rules.specs.declared.ListCall.TheVariants.{Deposit}
 use Rattle.rules.specs.Machine.{Lent, Machine, with_lent, page_of, offset_of, page_at, is_live, record_at, vcpu, startup}
@@ -172,19 +173,19 @@ in_list_memory : (w at rcx : ℕ) (m m' : Lent) → m'.memory ≡ m.memory → i
 unfolding in_list page_at
 in_list_memory w at rcx m m' e = rw e
 
-pending_code : eqb (code_number BadPending) 0 ≡ false
+pending_code : eqb (code_number (Err BadPending)) 0 ≡ false
 unfolding code_number
 pending_code = refl
 
-parameter_code : eqb (code_number Parameter) 0 ≡ false
+parameter_code : eqb (code_number (Err Parameter)) 0 ≡ false
 unfolding code_number
 parameter_code = refl
 
-address_code : eqb (code_number Address) 0 ≡ false
+address_code : eqb (code_number (Err Address)) 0 ≡ false
 unfolding code_number
 address_code = refl
 
-success_code : code_number Success ≡ 0
+success_code : code_number (Ok Success) ≡ 0
 unfolding code_number
 success_code = refl
 
@@ -257,10 +258,10 @@ module _ (caller : ℕ) (g : Registers) (m : Machine) (s : Sound m.lent) (fine :
         (λ e. omega (arith, behind 0 (omega (arith, shapes.below)) shapes.started (rw sheet at e))))
 
   -- a pending byte above 1
-  pending_counted : handle caller (posed caller g m) ≡ record { answer = BadPending; after = posed caller g m } → Counted (calls caller g) m
+  pending_counted : handle caller (posed caller g m) ≡ record { answer = Err BadPending; after = posed caller g m } → Counted (calls caller g) m
   unfolding on_lent with_lent
   pending_counted is =
-      let a : Answered Code Lent = record { answer = BadPending; after = m.lent } in
+      let a : Answered Code Lent = record { answer = Err BadPending; after = m.lent } in
       quiet caller g m (ended_pool a is refl) (taken_nothing (ap (λ a. list_next g.rcx a.after.machine.lent) is))
       (given_code caller g m (rw (ended_rax a is refl) pending_code))
 
@@ -334,9 +335,9 @@ module _ (caller : ℕ) (g : Registers) (m : Machine) (s : Sound m.lent) (fine :
 
     module _ (mult : multiple 8 g.rcx ≡ true) (page : ListPage g.rcx m.lent)
         (is : handle caller (posed caller g m)
-        ≡ on_lent (record { answer = Success; after = withdrawn (vcpu m.lent caller).vmpl g.rcx m.lent }) (posed caller g m)) where
+        ≡ on_lent (record { answer = Ok Success; after = withdrawn (vcpu m.lent caller).vmpl g.rcx m.lent }) (posed caller g m)) where
       abbrev withdrawal : Answered Code Lent
-      withdrawal = record { answer = Success; after = withdrawn (vcpu m.lent caller).vmpl g.rcx m.lent }
+      withdrawal = record { answer = Ok Success; after = withdrawn (vcpu m.lent caller).vmpl g.rcx m.lent }
 
       withdrawal_sheet : withdrawal.after.sheet ≡ m.lent.sheet
       withdrawal_sheet = withdrawn_sheet (vcpu m.lent caller).vmpl g.rcx m.lent
@@ -371,8 +372,8 @@ module _ (caller : ℕ) (g : Registers) (m : Machine) (s : Sound m.lent) (fine :
     withdraw_counted is =
         let vmpl = (vcpu m.lent caller).vmpl in
         let odd = not (multiple 8 g.rcx) in
-        by_test (odd || eqb (offset_of g.rcx) 0xFF8) (λ t. withdraw_refused Parameter parameter_code (rw t at is))
-        (λ t. by_test (bad_list_page vmpl g.rcx m.lent) (λ u. withdraw_refused Address address_code (rw (t, u) at is))
+        by_test (odd || eqb (offset_of g.rcx) 0xFF8) (λ t. withdraw_refused (Err Parameter) parameter_code (rw t at is))
+        (λ t. by_test (bad_list_page vmpl g.rcx m.lent) (λ u. withdraw_refused (Err Address) address_code (rw (t, u) at is))
         (λ u. withdraw_done (not-false _ (or_false odd (eqb (offset_of g.rcx) 0xFF8) t).0) (list_page vmpl g.rcx m.lent u) (rw (t, u) at is)))
 
   -- the eight calls, and what is refused before them

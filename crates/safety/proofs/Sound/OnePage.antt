@@ -8,7 +8,7 @@ use lib.Dec.{leb, ltb, eqb}
 use lib.ListN.{set}
 use borrow.Author.Tests.{eqb-true, eqb-false, ne_eqb, leb-true, leb-false, le-leb, lt-ltb}
 use Rattle.rules.specs.Words.{page_size, between, bits}
-use Rattle.rules.specs.Machine.{Lent, N, with_memory, written, write, zeros, fill, owner, valid, permitted, grant, revoke, own, table_byte, put, change}
+use Rattle.rules.specs.Machine.{Lent, N, with_memory, written, write, zeros, fill, owner, valid, permitted, grant, revoke, own, table_byte, change}
 use Rattle.rules.specs.Machine.{record_at, vcpu, startup}
 use Rattle.rules.specs.Sound.{claims, agrees, well_permitted, live_fault, record_fault, table_sized, pages_sized}
 use Rattle.laws.proofs.Ranges.{by_test}

@@ -1,12 +1,12 @@
 -- A page past the end is no page, to the definition too.
+use mathlib.Core.Path.{sym}
 use native.Mathlib.Omega.{arith}
 use lib.Dec.{lit<}
-use mathlib.Core.Path.{sym}
+use lib.Seq.{set_out}
 use Rattle.rules.specs.Words.{page_size}
 use Rattle.rules.specs.Machine.{written}
-use Rattle.laws.proofs.Parts.{length_parts}
 use Rattle.rules.specs.Flat.{parts}
-use lib.Seq.{set_out}
+use Rattle.laws.proofs.Parts.{length_parts}
 use Rattle.call.proofs.last.put_byte.Goals as goal
 
 pub put_byte-requires : goal.put_byte-requires

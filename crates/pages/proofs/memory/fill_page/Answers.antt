@@ -14,20 +14,20 @@ pub overflow_mul-start : goal.overflow_mul-start
 unfolding page_size
 overflow_mul-start c = omega (arith, page_ends c.args.memory.now c.args.page c.requires)
 
-pub overflow_add-end : goal.overflow_add-end
+pub overflow_add-start : goal.overflow_add-start
 unfolding page_size
-overflow_add-end c = omega (arith, page_ends c.args.memory.now c.args.page c.requires)
+overflow_add-start c = omega (arith, page_ends c.args.memory.now c.args.page c.requires)
 
 pub slice_bounds-fill-end : goal.slice_bounds-fill-end
 unfolding page_size
 slice_bounds-fill-end c = omega (arith, page_ends c.args.memory.now c.args.page c.requires)
 
 pub returns : goal.returns
-unfolding page_size
+unfolding page_size zeros
 returns c =
     let memory = c.args.memory.now in
     let page = c.args.page in
     let ends = page_ends memory page c.requires in
     let size : page_size * page + page_size - page_size * page ≡ page_size = omega arith in
-    let filled = c.fill.ensures ∙ ap zeros (mid_len (page_size * page) (page_size * page + page_size) memory ends ∙ size) in
+    let filled = c.fill.ensures.after (λ y e. e) ∙ ap zeros (mid_len (page_size * page) (page_size * page + page_size) memory ends ∙ size) in
     rw (filled, size) (parts_put page_size memory page (zeros page_size) positive c.requires (length_zeros page_size))

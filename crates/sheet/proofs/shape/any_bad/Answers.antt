@@ -1,32 +1,21 @@
-use mathlib.Core.Path.{sym, ◌∙◌}
+use mathlib.Core.Path.{◌≡◌, refl, ap}
+use Prim.Native.Nat.{ℕ}
 use native.Mathlib.Omega.{arith}
-use borrow.Author.Tests.{lt-ltb, le-ltb}
-use Rattle.rules.specs.Words.{records}
-use Rattle.sheet.proofs.Passed.{at_first, one_more, found, at_end, exists_below}
+use Rattle.std.specs.declared.ops.Range.{Range}
+use mathlib.Core.Bool.{true, false}
+use Rattle.std.proofs.Common.{rules}
+use Rattle.std.proofs.lemmas.Iterator.{cases_from_any, YieldsList-from_range}
+use Rattle.rules.specs.Words.{records, record_size}
+use Rattle.rules.specs.Sound.{bad_record}
+use Rattle.sheet.specs.Row.{row}
+use Rattle.sheet.proofs.Places.{asked}
 use Rattle.sheet.proofs.shape.any_bad.Goals as goal
 
-pub loop-i-init : goal.loop-i-init
-loop-i-init c = at_first
-
-pub bad_record-requires : goal.bad_record-requires
-unfolding records
-bad_record-requires c = record { sized = c.requires; below = omega arith }
-
-pub returns-then-bad_record : goal.returns-then-bad_record
-unfolding records
-returns-then-bad_record c =
-    sym (lt-ltb c.loop-i.i records (omega arith)) ∙ exists_below _ _ c.requires (found c.loop-i.invariant (sym c.bad_record.ensures ∙ c.if-bad_record.true))
-
-pub loop-i-smaller : goal.loop-i-smaller
-unfolding records
-loop-i-smaller c = omega arith
-
-pub loop-i-preserved : goal.loop-i-preserved
-unfolding records
-loop-i-preserved c = one_more c.loop-i.invariant (omega arith) (sym c.bad_record.ensures ∙ c.if-bad_record.false)
-
 pub returns : goal.returns
-unfolding records
+unfolding records record_size
 returns c =
-    let sized = c.requires in
-    sym (le-ltb c.loop-i.i records (omega arith)) ∙ exists_below _ _ sized (at_end c.loop-i.invariant sized (omega arith))
+    let upto : ℕ → Range ℕ = λ e. record { start = 0; end = e } in
+    let test = bad_record c.args.n in let sheet = c.args.sheet.now in
+    asked test sheet c.told-sheet c.any.result
+    (cases_from_any _ _ c.any.result (λ i. test (row sheet i) ≡ true) (λ i. test (row sheet i) ≡ false) c.any.ensures.ran
+    (YieldsList-from_range 0 records records (ap upto (omega arith)) refl) (λ x q k. search rules) (λ x q k. search rules))

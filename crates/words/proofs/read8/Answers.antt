@@ -1,7 +1,0 @@
--- Two numbers of 4 bytes are one of 8.
-use Rattle.std.proofs.Common.{sym}
-use Rattle.laws.proofs.Widths.{number_add}
-use Rattle.words.proofs.read8.Goals as goal
-
-pub returns : goal.returns
-returns c = rw (c.read4.ensures, c.read4-2.ensures) (sym (number_add 4 4 _ _))

@@ -1,7 +1,0 @@
--- Two numbers of 2 bytes, written in a row, are one of 4.
-use Rattle.std.proofs.Common.{◌∙◌}
-use Rattle.laws.proofs.Widths.{sets_halves}
-use Rattle.words.proofs.write4.Goals as goal
-
-pub returns : goal.returns
-returns c = c.write2-2.ensures ∙ rw c.write2.ensures (sets_halves 2 _ _ _)
