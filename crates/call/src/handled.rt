@@ -18,7 +18,8 @@ pub fn dispatch(machine: &mut Machine, g: &mut Registers, caller: usize) -> Code
         ≡ record { answer = result; after = posed g.new machine.new } }
 {
     let rcx = g.rcx;
-    match (g.rax % 0x100000000) as u32 {
+    let number = (g.rax % 0x100000000) as u32;
+    match number {
         0 => remap_call::remap(machine, caller, rcx),
         1 => list_calls::list_call(machine, ListCall::Pvalidate, caller, rcx),
         2 => create_call::create(machine, caller, rcx, g.rdx, g.r8),
@@ -35,7 +36,7 @@ pub fn dispatch(machine: &mut Machine, g: &mut Registers, caller: usize) -> Code
 }
 
 // The byte that says that a call is made.
-#[tactic(auto, using(laws::proofs::Tested::caller_below, laws::proofs::Tested::caller_names), unfolding(rules::specs::Call::pending, rules::specs::Words::page_size, rules::specs::Machine::vcpu, rules::specs::Machine::record_at))]
+#[tactic(auto, using(machine::proofs::Tested::caller_in, machine::proofs::Tested::area_in), unfolding(rules::specs::Call::pending, rules::specs::Words::page_size))]
 pub fn pending(machine: &Machine, caller: usize) -> u8
     requires { Tested (bytes_of machine.now) caller }
     ensures { result ≡ Rattle.rules.specs.Call.pending caller (lent_of machine.now) }

@@ -1,5 +1,5 @@
-// A call, whole: the outcomes in their order, which call is made, and the last writes. `call` and `call_in_place` are public: neither has a `requires`, and each
-// promise is one equation with the definition on flat bytes, over all that was lent. Nothing is assumed.
+// A call, whole: the outcomes in their order, which call is made, and the last writes. `call` is public: it has no `requires`, and its promise
+// is one equation with the definition on flat bytes, over all that was lent. Nothing is assumed.
 #![tactic(auto)]
 
 pub mod handled;
@@ -83,42 +83,11 @@ fn come_back(machine: &mut Machine, g: &mut Registers, caller: usize) -> Outcome
     finish(machine, g, before, code, caller)
 }
 
-// A call by a vCPU, which lends its registers and finds them changed.
-pub fn call_in_place(
-    memory: &mut [u8],
-    table: &mut [u8],
-    sheet: &mut [u8],
-    registers: &mut Registers,
-    caller: usize,
-) -> Outcome
-    ensures { CallPromise caller
-        (record {
-          registers = registers.old;
-          machine = buffers memory.old table.old sheet.old;
-        })
-        (record {
-          answer = result;
-          after = record {
-            registers = registers.new;
-            machine = buffers memory.new table.new sheet.new;
-          };
-        }) }
+// Outcomes that leave the registers.
+fn left(outcome: Outcome, registers: Registers) -> Called
+    ensures { result ≡ record { outcome = outcome; registers = registers } }
 {
-    if !pages::memory::fits(table.len(), memory.len()) {
-        return Outcome::BadMachine;
-    }
-    let Some(sheet) = sheet.as_mut_array::<SHEET_SIZE>() else {
-        return Outcome::BadMachine;
-    };
-    if sheet::shape::bad_sheet(sheet, table.len(), caller) {
-        return Outcome::BadMachine;
-    }
-    let mut machine = Machine {
-        memory,
-        table,
-        sheet,
-    };
-    come_back(&mut machine, registers, caller)
+    Called { outcome, registers }
 }
 
 // A call by a vCPU, with its registers.
@@ -139,7 +108,21 @@ pub fn call(
           };
         }) }
 {
+    if !pages::memory::fits(table.len(), memory.len()) {
+        return left(Outcome::BadMachine, g);
+    }
+    let Some(sheet) = sheet.as_mut_array::<SHEET_SIZE>() else {
+        return left(Outcome::BadMachine, g);
+    };
+    if sheet::shape::bad_sheet(sheet, table.len(), caller) {
+        return left(Outcome::BadMachine, g);
+    }
+    let mut machine = Machine {
+        memory,
+        table,
+        sheet,
+    };
     let mut registers = g;
-    let outcome = call_in_place(memory, table, sheet, &mut registers, caller);
+    let outcome = come_back(&mut machine, &mut registers, caller);
     Called { outcome, registers }
 }

@@ -29,7 +29,7 @@ struct Asked {
 }
 
 // The page itself, if it is usable for a caller of this VMPL, and plain.
-#[tactic(auto, using(crate::proofs::Pages::page_below), unfolding(rules::specs::Calls::unfit_page, rules::specs::Machine::owned_by, rules::specs::Machine::table_byte, rules::specs::Flat::parted))]
+#[tactic(auto, using(machine::proofs::Placed::page_below), unfolding(rules::specs::Calls::unfit_page, rules::specs::Machine::owned_by, rules::specs::Machine::table_byte, rules::specs::Flat::parted))]
 fn fit_page(machine: &Machine, vmpl: u8, page: u64) -> Option<usize>
     ensures page { result ≡ cond (unfit_page vmpl (lent_of machine.now) page) None (Some page) }
     ensures below { IfSome result (λ p. p < length machine.now.table.now) }
@@ -58,7 +58,7 @@ fn fit_pages(
 }
 
 // Refused: VMPL or EFER in the VMSA page unfit, VMPL below the caller's, features unlike record 0's, the APIC ID of a live record.
-#[tactic(auto, using(machine::proofs::Placed::pages_held, sheet::proofs::Places::some_place), unfolding(rules::specs::Calls::unfit_vcpu, rules::specs::Machine::page_at, rules::specs::Machine::startup, sheet::specs::Named::live_named, rules::specs::Flat::parted, rules::specs::Words::records))]
+#[tactic(auto, using(machine::proofs::Placed::pages_held, laws::proofs::Places::placed), unfolding(rules::specs::Calls::unfit_vcpu, rules::specs::Machine::page_at, rules::specs::Machine::startup, sheet::specs::Named::live_named, rules::specs::Flat::parted, rules::specs::Words::records))]
 fn check_vcpu(machine: &Machine, asked: Asked) -> Result<(), Refusal>
     requires { asked.vmsa < length machine.now.table.now }
     ensures { result ≡ cond (unfit_vcpu (asked_of asked) (lent_of machine.now)) (Err Refusal.Parameter) (Ok tt) }
@@ -101,7 +101,7 @@ fn free_record(machine: &Machine) -> Option<usize>
 
 // The pool page of record i, if it needs one. The first records need none. Whether any page is free is asked first, of many bytes at once: so a table with none
 // is not walked page by page.
-#[tactic(auto, using(pages::proofs::Free::placed), unfolding(rules::specs::Machine::needs_page, rules::specs::Words::records_without_pool, rules::specs::Calls::any_free, rules::specs::Calls::free_page, rules::specs::Flat::parted))]
+#[tactic(auto, using(laws::proofs::Places::placed), unfolding(rules::specs::Machine::needs_page, rules::specs::Words::records_without_pool, rules::specs::Calls::any_free, rules::specs::Calls::free_page, rules::specs::Flat::parted))]
 fn pool_page(machine: &Machine, i: usize) -> Result<Option<usize>, Refusal>
     ensures page { let m = lent_of machine.now in
         result ≡ cond (needs_page i && not (any_free m)) (Err Refusal.OneMorePage) (Ok (pool_of i m)) }
@@ -110,14 +110,14 @@ fn pool_page(machine: &Machine, i: usize) -> Result<Option<usize>, Refusal>
     if i < RECORDS_WITHOUT_POOL {
         return Ok(None);
     }
-    if !pages::pool::any_free(machine.table) {
+    if !machine.any_free() {
         return Err(Refusal::OneMorePage);
     }
     Ok(pages::pool::lowest_free(machine.table))
 }
 
 // The new record, not running.
-#[tactic(auto, using(machine::proofs::Placed::pages_held, crate::proofs::Pages::most), unfolding(rules::specs::Calls::new_record, rules::specs::Calls::free_page, rules::specs::Machine::page_at, rules::specs::Flat::parted, rules::specs::Words::most_pages))]
+#[tactic(auto, using(machine::proofs::Placed::pages_held, machine::proofs::Placed::most), unfolding(rules::specs::Calls::new_record, rules::specs::Calls::free_page, rules::specs::Machine::page_at, rules::specs::Flat::parted, rules::specs::Words::most_pages))]
 fn new_record(machine: &Machine, asked: Asked, pool: Option<usize>) -> Vcpu
     requires { Fit machine.now asked pool }
     ensures { let m = lent_of machine.now in
@@ -155,7 +155,7 @@ fn make(machine: &mut Machine, i: usize, asked: Asked, pool: Option<usize>)
 }
 
 // 2 Create.
-#[tactic(auto, unfolding(rules::specs::Calls::create, rules::specs::Answers::refuse, rules::specs::Calls::unfit_pages, rules::specs::Calls::asked, rules::specs::Machine::page_of, rules::specs::Words::bits, rules::specs::Words::page_size))]
+#[tactic(auto, using(machine::proofs::Tested::caller_in), unfolding(rules::specs::Calls::create, rules::specs::Answers::refuse, rules::specs::Calls::unfit_pages, rules::specs::Calls::asked, rules::specs::Machine::page_of, rules::specs::Words::bits, rules::specs::Words::page_size))]
 pub fn create(machine: &mut Machine, caller: usize, rcx: u64, rdx: u64, r8: u64) -> Code
     requires { Tested (bytes_of machine.old) caller }
     ensures same { SameBuffers machine.old machine.new }

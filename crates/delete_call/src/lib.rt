@@ -12,13 +12,9 @@ ghost use Rattle.machine.specs.Held.{bytes_of, lent_of, SameBuffers};
 use machine::held::Machine;
 use pages::byte::Owner;
 use pages::gpa::Gpa;
+use pages::vmsa::{EFER, SVME};
 use rules::{Code, Progress, Refusal, Vcpu};
 use sheet::live::{Named, lowest};
-
-// Where EFER stands in a VMSA page, and its bit 12.
-const EFER: usize = 0xD0;
-
-const SVME: u64 = 0x1000;
 
 // EFER bit 12 of a VMSA page, cleared.
 #[tactic(auto, using(crate::proofs::Masks::clear_bit_12), unfolding(rules::specs::Calls::clear_svme, rules::specs::Machine::efer, rules::specs::Words::page_size))]
@@ -61,7 +57,7 @@ fn deleted(machine: &mut Machine, vmpl: u8, i: usize)
 }
 
 // The record that is meant, if it may be deleted.
-#[tactic(auto, unfolding(rules::specs::Calls::delete, rules::specs::Answers::refuse, rules::specs::Calls::named_by, rules::specs::Machine::vcpu, rules::specs::Machine::record_at, rules::specs::Flat::parted, rules::specs::Words::records, rules::specs::Machine::page_of, rules::specs::Words::page_size, sheet::specs::Named::live_named))]
+#[tactic(auto, using(machine::proofs::Tested::caller_in), unfolding(rules::specs::Calls::delete, rules::specs::Answers::refuse, rules::specs::Calls::named_by, rules::specs::Machine::vcpu, rules::specs::Machine::record_at, rules::specs::Flat::parted, rules::specs::Words::records, rules::specs::Machine::page_of, rules::specs::Words::page_size, sheet::specs::Named::live_named))]
 fn meant(machine: &Machine, caller: usize, rcx: u64) -> Result<usize, Refusal>
     requires { Tested (bytes_of machine.now) caller }
     ensures found { IfOk result (λ i. (i < records) × Names (length machine.now.table.now) (record_at (lent_of machine.now) i)) }
@@ -87,6 +83,7 @@ fn meant(machine: &Machine, caller: usize, rcx: u64) -> Result<usize, Refusal>
 }
 
 // 3 Delete.
+#[tactic(auto, using(machine::proofs::Tested::caller_in))]
 pub fn delete(machine: &mut Machine, caller: usize, rcx: u64) -> Code
     requires { Tested (bytes_of machine.old) caller }
     ensures same { SameBuffers machine.old machine.new }

@@ -1,8 +1,9 @@
-// The call for a caller in Rattle, who lends the registers as one record and finds it changed in place. The promise is the one of `call::call_in_place`, which it
-// is. There is no `requires`, and nothing is assumed.
+// The call for a caller in Rattle, who lends the registers as one record and finds it changed in place. The promise is the one of `call::call`, which takes
+// and returns the registers by value; here the record that was lent is what came back. There is no `requires`, and nothing is assumed.
 ghost use Rattle.rules.specs.Flat.{buffers};
 ghost use Rattle.rules.specs.Promises.{CallPromise};
 
+use call::Called;
 use rules::{Outcome, Registers};
 
 pub fn call(
@@ -25,5 +26,10 @@ pub fn call(
           };
         }) }
 {
-    call::call_in_place(memory, table, sheet, registers, caller)
+    let Called {
+        outcome,
+        registers: after,
+    } = call::call(memory, table, sheet, *registers, caller);
+    *registers = after;
+    outcome
 }

@@ -14,6 +14,7 @@ ghost use Rattle.rules.specs.Discovery.{located_number};
 ghost use Rattle.rules.specs.Promises.{MonitorLaunchPromise, MonitorStorePromise, MonitorMarkPromise, MonitorCallPromise};
 ghost use Rattle.rules.specs.Promises.{MonitorAnnouncePromise, MonitorDiscoverPromise};
 
+use call::Called;
 use rules::{DiscoveryError, LaunchError, Outcome, Plan, Refused, Registers};
 use words::Little;
 
@@ -179,9 +180,12 @@ pub fn monitor_call(
     if registers.len() != REGISTERS_SIZE {
         return Outcome::BadMachine.number();
     }
-    let mut g = read_registers(registers);
-    let outcome = call::call_in_place(memory, table, sheet, &mut g, caller);
-    write_registers(registers, g);
+    let g = read_registers(registers);
+    let Called {
+        outcome,
+        registers: after,
+    } = call::call(memory, table, sheet, g, caller);
+    write_registers(registers, after);
     outcome.number()
 }
 

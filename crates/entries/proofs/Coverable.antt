@@ -1,4 +1,4 @@
--- Laws of the test of a page that an entry covers, and of a usable page below N: what they come to on the table. No other proof of the code opens them. They are
+-- Laws of the test of a page that an entry covers, and of a usable page below N: what they come to on the table. They are
 -- here and not in `laws`, which has to hold where a wrong rule is tried on `safety`.
 -- Assumes nothing.
 use mathlib.Core.Path.{◌≡◌}

@@ -1,5 +1,5 @@
--- The one way to write a table byte: what `put` and `change` make of a machine. No other proof sees through them, so that whatever a later request attaches to
--- them is told here and nowhere else.
+-- The one way to write a table byte: what `put` and `change` make of a machine. Of the statements' proofs none sees through them, and of the code's
+-- those alone of the methods that carry them out (`machine`, writes) and of an entry's page (`effects`): whatever a later request attaches to them is told there.
 use mathlib.Core.Path.{◌≡◌, refl, sym, ◌∙◌, ap}
 use mathlib.Core.Bool.{cond}
 use mathlib.Core.List.{[]}

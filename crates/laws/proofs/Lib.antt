@@ -6,6 +6,7 @@ pub mod Widths
 pub mod Records
 pub mod Writes
 pub mod Ranges
+pub mod Places
 pub mod Change
 pub mod Counts
 pub mod Marks

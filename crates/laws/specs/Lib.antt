@@ -1,4 +1,4 @@
--- Definitions that are no sentence of document 01: contracts of inner functions cite them, and laws of proofs/ are about them.
+-- Definitions that are no sentence of document 01: contracts of inner functions cite them, or laws of proofs/ are about them.
 pub mod Alone
 pub mod Marks
 pub mod Tested

@@ -1,4 +1,4 @@
--- One element of a list changed: what a function that is lent the table alone does to the byte of a page.
+-- One element of a list changed: the table after a change of one page's byte.
 use Rattle.std.specs.Prelude.{List, ℕ, get_or, set}
 
 -- element p changed by f; d stands for an element past the end

@@ -3,7 +3,7 @@
 
 ghost use Rattle.std.specs.Prelude.{◌≡◌, ◌+◌, ◌*◌, ◌<◌, ◌≤◌, IfOk, length};
 ghost use Rattle.rules.specs.Words.{records, entries_a_call};
-ghost use Rattle.rules.specs.Answers.{Answered};
+ghost use Rattle.rules.specs.Answers.{Answered, entry_code};
 ghost use Rattle.rules.specs.Machine.{page_of, vcpu};
 ghost use Rattle.rules.specs.Lists.{in_list, list_count, list_entry, carry_out_all, store_index, read_entry, run, list_call};
 ghost use Rattle.laws.specs.Tested.{Tested};
@@ -27,6 +27,14 @@ struct List {
     call: ListCall,
     caller: usize,
     gpa: Gpa,
+}
+
+// The code of an entry: success where it reads cleanly.
+#[tactic(auto, unfolding(rules::specs::Answers::entry_code))]
+fn code_of(reading: Result<Entry, Refusal>) -> Code
+    ensures { result ≡ entry_code reading }
+{
+    reading.map(|_| Progress::Success)
 }
 
 // What an entry does. It asks for memory and table alone.
@@ -111,7 +119,7 @@ impl List {
     }
 
     // `todo` entries from index `start` on.
-    #[tactic(auto, using(crate::proofs::Runs::run_more, crate::proofs::Runs::run_refused, crate::proofs::Runs::run_ends), unfolding(rules::specs::Words::page_size))]
+    #[tactic(auto, using(crate::proofs::Runs::run_more, crate::proofs::Runs::run_refused, crate::proofs::Runs::run_ends), unfolding(rules::specs::Answers::entry_code, rules::specs::Words::page_size))]
     fn run(self, machine: &mut Machine, start: usize, todo: usize) -> Code
         requires { Listed self machine.old (8 + 8 * (start + todo)) }
         ensures same { SameBuffers machine.old machine.new }
@@ -121,13 +129,12 @@ impl List {
         let end = start + todo;
         for k in start..end {
             let vmpl = machine.vcpu(self.caller).vmpl;
-            match self.entry(machine, k) {
-                Ok(entry) => carry_out(machine, entry, vmpl),
-                Err(why) => {
-                    self.store_index(machine, k);
-                    return Err(why);
-                }
-            }
+            let reading = self.entry(machine, k);
+            let Ok(entry) = reading else {
+                self.store_index(machine, k);
+                return code_of(reading);
+            };
+            carry_out(machine, entry, vmpl);
         }
         let count = usize::from(self.count(machine));
         self.store_index(machine, end);

@@ -2,7 +2,7 @@
 ghost use Rattle.std.specs.Prelude.{◌≡◌, ◌+◌, ◌<◌, ◌≤◌, [], ◌∷◌, length};
 ghost use Rattle.std.proofs.lemmas.List.Edits.{sets};
 ghost use Rattle.rules.specs.Words.{page_size, records, little};
-ghost use Rattle.rules.specs.Machine.{write, fill, put, change, own, grant, revoke, amend, laid_out};
+ghost use Rattle.rules.specs.Machine.{write, put, change, own, grant, revoke, amend, laid_out};
 ghost use Rattle.pages.specs.Owner.{owner_number};
 ghost use Rattle.machine.specs.Held.{lent_of, SameBuffers};
 
@@ -72,17 +72,6 @@ impl Machine<'_> {
     {
         let memory = &mut *self.memory;
         parts::put_number(memory, PAGE_SIZE, page, offset, x);
-    }
-
-    // Zeros in a page.
-    #[tactic(auto, using(crate::proofs::Placed::pages_held), unfolding(rules::specs::Machine::fill, rules::specs::Machine::with_memory, rules::specs::Flat::parted))]
-    pub fn fill(&mut self, page: usize)
-        requires { page < length self.old.table.now }
-        ensures same { SameBuffers self.old self.new }
-        ensures done { lent_of self.new ≡ fill page (lent_of self.old) }
-    {
-        let memory = &mut *self.memory;
-        pages::memory::fill_page(memory, page);
     }
 
     // A whole record.

@@ -1,4 +1,3 @@
-pub mod Answer
 pub mod Free
 pub mod Masks
 pub mod Numbered

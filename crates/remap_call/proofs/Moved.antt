@@ -1,23 +1,17 @@
--- Remap's steps in a row are the definition's; and what a tested machine says of its caller.
+-- Remap's steps in a row are the definition's.
 -- Assumes nothing.
 use mathlib.Core.Path.{◌≡◌, ap}
 use mathlib.Core.List.{[], ◌∷◌}
-use Prim.Native.Nat.{ℕ, ◌<◌}
+use Prim.Native.Nat.{ℕ}
 use native.Mathlib.Omega.{arith}
 use lib.Dec.{eqb}
-use lib.ListN.{length}
 use lib.Seq.{sets}
 use borrow.Author.Tests.{eqb-true}
-use Rattle.rules.specs.Words.{records, little}
-use Rattle.rules.specs.Machine.{Lent, ◌▷◌, own, plain, calling_area, change, amend, record_at, vcpu, write}
+use Rattle.rules.specs.Words.{little}
+use Rattle.rules.specs.Machine.{Lent, ◌▷◌, own, plain, calling_area, change, amend, write}
 use Rattle.rules.specs.Calls.{remapped}
-use Rattle.rules.specs.Flat.{parted}
-use Rattle.laws.specs.Tested.{Tested}
 use Rattle.laws.proofs.Change.{change_twice}
 use Rattle.laws.proofs.Ranges.{by_test}
-use Rattle.laws.proofs.Tested.{caller_below, caller_names}
-use Rattle.machine.specs.Held.{bytes_of, lent_of}
-use Rattle.machine.specs.declared.held.Machine.{Machine}
 
 -- the last owner is what counts
 own_own : (b : ℕ) → own calling_area (own plain b) ≡ own calling_area b
@@ -34,12 +28,3 @@ moved caller old new m =
     by_test (eqb old new)
     (λ t. rw (t, eqb-true old new t, change_twice (own plain) (own calling_area) new m) (ap after (simp own_own)))
     (λ t. rw t)
-
--- the caller's record is one of the sheet's, and names a page of the table
-module _ (m : Machine) (caller : ℕ) (t : Tested (bytes_of m) caller) where
-  pub caller_in : caller < records
-  caller_in = caller_below (bytes_of m) caller t
-
-  pub area_in : (vcpu (lent_of m) caller).calling < length m.table.now
-  unfolding vcpu record_at parted
-  area_in = (caller_names (bytes_of m) caller t).calling

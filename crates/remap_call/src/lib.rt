@@ -29,7 +29,7 @@ fn move_area(machine: &mut Machine, caller: usize, old: usize, new: usize)
     machine.write_byte(new, 0, 0);
 }
 
-#[tactic(auto, using(crate::proofs::Moved::caller_in, crate::proofs::Moved::area_in), unfolding(rules::specs::Calls::remap, rules::specs::Answers::refuse, rules::specs::Machine::usable, rules::specs::Machine::below, rules::specs::Machine::N, rules::specs::Machine::owned_by, rules::specs::Machine::table_byte, rules::specs::Machine::page_of, rules::specs::Words::page_size, rules::specs::Flat::parted))]
+#[tactic(auto, using(machine::proofs::Tested::caller_in, machine::proofs::Tested::area_in), unfolding(rules::specs::Calls::remap, rules::specs::Answers::refuse, rules::specs::Machine::usable, rules::specs::Machine::below, rules::specs::Machine::N, rules::specs::Machine::owned_by, rules::specs::Machine::table_byte, rules::specs::Machine::page_of, rules::specs::Words::page_size, rules::specs::Flat::parted))]
 pub fn remap(machine: &mut Machine, caller: usize, rcx: u64) -> Code
     requires { Tested (bytes_of machine.old) caller }
     ensures same { SameBuffers machine.old machine.new }

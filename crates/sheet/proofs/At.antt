@@ -10,7 +10,6 @@ use Rattle.rules.specs.Words.{records, record_size}
 use Rattle.rules.specs.Flat.{parts}
 use Rattle.laws.proofs.Parts.{length_parts}
 use Rattle.parts.specs.Place.{Place}
-use Rattle.sheet.specs.Row.{Row}
 use Rattle.sheet.specs.declared.TheConstants.{RECORD_SIZE, SHEET_SIZE}
 
 -- a sheet of right size has its records
@@ -18,11 +17,7 @@ pub rows_of : (sheet : List ℕ) → length sheet ≡ record_size * records → 
 unfolding records record_size
 rows_of sheet e = length_parts record_size sheet ∙ omega arith
 
-pub at : {sheet : List ℕ} {i : ℕ} → Row sheet i → (o w : ℕ) → o + w ≤ RECORD_SIZE → Place sheet RECORD_SIZE i o w
-unfolding record_size
-at {sheet} {i} r o w h = record { some = lit< tt; below = omega (arith, rows_of sheet r.sized, r.below); within = h }
-
--- the same in a sheet whose size is in its type: any field of any record
+-- any field of any record, in a sheet whose size is in its type
 pub field : {sheet : List ℕ} {i o w : ℕ} → length sheet ≡ SHEET_SIZE → i < records → o + w ≤ RECORD_SIZE → Place sheet RECORD_SIZE i o w
 unfolding record_size records
-field {sheet} {i} {o} {w} e h fits = at (record { sized = e; below = h }) o w fits
+field {sheet} {i} {o} {w} e h fits = record { some = lit< tt; below = omega (arith, rows_of sheet e, h); within = fits }

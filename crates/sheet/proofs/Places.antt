@@ -1,58 +1,35 @@
--- What is looked for among the records in their order: the library's `position` and the rules' `lowest` and `exists`, and what a walk over the
--- numbers of the records has seen.
+-- What is looked for among the records in their order: what a walk over the numbers of the records has seen.
 -- Assumes nothing.
-use mathlib.Core.Path.{◌≡◌, refl, sym, ◌∙◌, ap}
-use mathlib.Core.Bool.{Bool, true, false, cond}
+use mathlib.Core.Path.{◌≡◌, sym, ◌∙◌, ap}
+use mathlib.Core.Bool.{Bool, true, false}
 use mathlib.Core.List.{List, []}
 use Prim.Native.Nat.{ℕ, ◌*◌, ◌<◌, ◌≤◌}
 use native.Mathlib.Omega.{arith}
-use lib.Dec.{ltb}
 use lib.ListN.{length, get_or}
-use borrow.Author.Tests.{lt-ltb, le-ltb, ltb-false}
-use Rattle.std.specs.Prelude.{Option, Some, None, position, unwrap_or, is_some, IfSome, MatchOption, MatchBool}
-use Rattle.std.specs.List.{position_or_len, range_with_len, HoldsAt, AllWithin}
-use Rattle.std.proofs.Common.{one-add}
+use Rattle.std.specs.Prelude.{Option, Some, None, position, unwrap_or, IfSome, MatchOption, MatchBool}
+use Rattle.std.specs.List.{range_with_len, HoldsAt, AllWithin}
 use Rattle.std.proofs.lemmas.List.Quantifiers.{position-Some}
-use Rattle.std.proofs.lemmas.List.Recursion.{is_position_or_len}
 use Rattle.std.proofs.lemmas.List.FromFn.{length-range_with_len, get_or-range_with_len}
 use Rattle.rules.specs.Words.{records, record_size, lowest, exists}
 use Rattle.rules.specs.Flat.{parts}
-use Rattle.laws.proofs.Ranges.{by_test, lowest_le, lowest_is, lowest_none, exists_lowest, →exists, →absent}
+use Rattle.laws.proofs.Ranges.{lowest_is, →exists, →absent}
+use Rattle.laws.proofs.Places.{placed, place_or_length}
 use Rattle.sheet.specs.Row.{row}
 use Rattle.sheet.proofs.At.{rows_of}
-
-module _ {A : Type 0} (test : A → Bool) where
-  -- the library's place is the rules'
-  pub lowest_position : (xs : List A) → lowest test xs ≡ position_or_len test xs
-  unfolding lowest
-  lowest_position = is_position_or_len (lowest test) test refl (λ x xs. rw one-add)
-
-  pub position_lowest : (xs : List A) → position test xs ≡ cond (ltb (lowest test xs) (length xs)) (Some (lowest test xs)) None
-  position_lowest xs = rw (lowest_position xs)
-
-  -- where none passes, the length stands for the place
-  pub place_or_length : (xs : List A) → unwrap_or (position test xs) (length xs) ≡ lowest test xs
-  place_or_length xs =
-      by_test (ltb (lowest test xs) (length xs)) (λ t. rw (position_lowest xs, t))
-      (λ t. rw (position_lowest xs, t) (omega (arith, lowest_le test xs, ltb-false (lowest test xs) (length xs) t)))
-
-  -- there is a place where one exists
-  pub some_place : (xs : List A) → is_some (position test xs) ≡ exists test xs
-  some_place xs =
-      by_test (ltb (lowest test xs) (length xs)) (λ t. rw (position_lowest xs, exists_lowest test xs, t))
-      (λ t. rw (position_lowest xs, exists_lowest test xs, t))
 
 module _ (test : List ℕ → Bool) (sheet : List ℕ) (sized : length sheet ≡ record_size * records) where
   -- a walk over the numbers of the records that stops at the first whose record passes
   pub found : (r : Option ℕ) → MatchOption r ((k : ℕ) → 0 ≤ k → k < records → test (row sheet k) ≡ false)
       (λ i. (0 ≤ i) × (i < records) × (test (row sheet i) ≡ true) × ((k : ℕ) → 0 ≤ k → k < i → test (row sheet k) ≡ false))
       → r ≡ position test (parts record_size sheet)
-  found None seen =
-      let rows = parts record_size sheet in let n = rows_of sheet sized in
-      rw (position_lowest test rows, lowest_none test rows [] (λ k h. seen k (omega arith) (omega (arith, n, h))), le-ltb (length rows) (length rows) (omega arith))
+  found None seen = rw (placed test (parts record_size sheet), →absent test (parts record_size sheet) [] (λ k h. seen k (omega arith) (omega (arith, rows_of sheet sized, h))))
   found (Some i) seen =
-      let rows = parts record_size sheet in let n = rows_of sheet sized in
-      rw (position_lowest test rows, lowest_is test rows i [] seen.2 (λ k h. seen.3 k (omega arith) h), lt-ltb i (length rows) (omega (arith, n, seen.1)))
+      let rows = parts record_size sheet in
+      rw (
+        placed test rows,
+        →exists test rows i [] (omega (arith, rows_of sheet sized, seen.1)) seen.2,
+        lowest_is test rows i [] seen.2 (λ k h. seen.3 k (omega arith) h),
+      )
 
   -- it is the number of a record; where none was found, the number of records stands for it
   pub place_below : (r : Option ℕ) → r ≡ position test (parts record_size sheet) → IfSome r (λ i. i < records)

@@ -17,7 +17,7 @@ pub struct Guest {
 impl Guest {
     // Sixteen blank pages; VMPL 1 and EFER bit 12 make page 11 a VMSA that launch takes.
     pub fn new(out: Stdout) -> Guest {
-        let mut memory = [0; 65536];
+        let mut memory = [0u8; 65536];
         memory[0xB0CA] = 1;
         memory[0xB0D1] = 0x10;
         Guest {

@@ -1,4 +1,4 @@
--- , a register at a time.
+-- A register at a time.
 use Rattle.rules.specs.Words.{registers_size}
 use Rattle.rules.specs.Flat.{register_bytes}
 use Rattle.door.proofs.Registers.{bytes_of, none, ◌then◌, all}

@@ -29,5 +29,5 @@ returns c =
     let page = c.args.page in
     let ends = page_ends memory page c.requires in
     let size : page_size * page + page_size - page_size * page ≡ page_size = omega arith in
-    let filled = c.fill.ensures.after (λ y e. e) ∙ ap zeros (mid_len (page_size * page) (page_size * page + page_size) memory ends ∙ size) in
+    let filled = c.fill.ensures ∙ ap zeros (mid_len (page_size * page) (page_size * page + page_size) memory ends ∙ size) in
     rw (filled, size) (parts_put page_size memory page (zeros page_size) positive c.requires (length_zeros page_size))
