@@ -13,7 +13,7 @@ use Rattle.rules.specs.Words.{range, every, exists, count, places, each}
 use Rattle.rules.specs.Machine.{Lent, table_byte, change}
 use Rattle.laws.specs.Revised.{revise}
 use Rattle.laws.proofs.Change.{change_table, change_memory, change_sheet}
-use Rattle.laws.proofs.Ranges.{by_test, length_range, each_part, each_same, Rising, none, more, rising_take, rising_range}
+use Rattle.laws.proofs.Ranges.{by_test, length_range, range_snoc, each_part, each_same, Rising, none, more, rising_take, rising_range}
 use Rattle.laws.proofs.Ranges.{rising_places, rising→every, rising→absent, rising→outside}
 
 -- what an element adds to a count
@@ -189,6 +189,16 @@ memory_each f = each_same (λ m. m.memory) (change f) (change_memory f)
 -- and the sheet
 pub sheet_each : (f : ℕ → ℕ) (ps : List ℕ) (m : Lent) → (each (change f) ps m).sheet ≡ m.sheet
 sheet_each f = each_same (λ m. m.sheet) (change f) (change_sheet f)
+
+-- a loop that counts over a range
+pub count_more : (test : ℕ → Bool) (first i : ℕ) → count test (range first (suc i)) ≡ count test (range first i) + one (test (first + i))
+unfolding count
+count_more test first i =
+    rw (range_snoc first i) (count_append test (range first i) ((first + i) ∷ []) ∙ ap (λ (n : ℕ). count test (range first i) + n) (single (test (first + i))))
+  where
+    single : (b : Bool) → cond b 1 0 ≡ one b
+    single true = refl
+    single false = refl
 
 -- none passes where each fails
 pub every_not : {A : Type 0} (test : A → Bool) (xs : List A) → every (λ x. not (test x)) xs ≡ eqb (count test xs) 0

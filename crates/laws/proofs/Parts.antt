@@ -1,12 +1,12 @@
 -- Laws of the parts of a buffer: what is read and written in a part is read and written in the buffer.
 use mathlib.Core.Path.{◌≡◌, refl, sym, ◌∙◌, ap}
-use mathlib.Core.List.{List, [], ◌++◌}
-use Prim.Native.Nat.{ℕ, zero, suc, ◌+◌, ◌*◌, ◌/◌, ◌<◌, ◌≤◌}
+use mathlib.Core.List.{List, [], ◌++◌, append-nil, append_assoc}
+use Prim.Native.Nat.{ℕ, zero, suc, ◌+◌, ◌-◌, ◌*◌, ◌/◌, ◌<◌, ◌≤◌}
 use native.Mathlib.Omega.{arith}
-use native.Mathlib.Nat.{mul-div_cancel_left, le-div_iff_mul-le, mul_comm, mul-suc, add_comm}
-use lib.ListN.{length, get_or, set, length-append, length-drop, replicate, replicate-append-replicate}
-use lib.Seq.{sets, length-sets, length-take-le, take_at, drop_at}
-use borrow.Rule.Slice.PartMut.{put_mid}
+use native.Mathlib.Nat.{mul-div_cancel_left, zero-add, le-div_iff_mul-le, mul_comm, mul-suc, add_comm}
+use lib.ListN.{length, get_or, set, drop, length-append, length-drop, drop_of_length-le, replicate, replicate-append-replicate}
+use lib.Seq.{sets, length-sets, length-take-le, take_all, drop-drop, sets-eq, take_at, drop_at}
+use borrow.Rule.Slice.PartMut.{mid_of, put_mid}
 use Rattle.rules.specs.Words.{number}
 use Rattle.rules.specs.Machine.{written, zeros}
 use Rattle.rules.specs.Flat.{chop, parts, join}
@@ -67,6 +67,15 @@ parts_put size l p new pos h f =
     let same : length (put_mid (size * p) size l new) ≡ length l =
     simp (length-append, length-drop) (omega (arith, length-take-le (size * p) l (omega arith))) in
     rw same (chop_put (length l / size) size l p new (rw length_parts at h) within f)
+
+-- bytes stored at the front of what lies from a on are stored at a
+pub sets_tail : (a : ℕ) (l vs : List ℕ) → a + length vs ≤ length l
+    → put_mid a (length l - a) l (sets (mid_of a (length l - a) l) 0 vs) ≡ sets l a vs
+sets_tail a l vs h =
+    let tail : mid_of a (length l - a) l ≡ drop a l = take_all (length l - a) (drop a l) (omega (arith, length-drop a l)) in
+    let none : drop (length l - a) (drop a l) ≡ [] = drop_of_length-le (drop a l) {i = length l - a} (omega (arith, length-drop a l)) in
+    rw (tail, none, append-nil (sets (drop a l) 0 vs), sets-eq vs (drop a l) 0 (omega (arith, length-drop a l)), sets-eq vs l a h)
+    (simp (zero-add, drop-drop, append_assoc))
 
 -- the parts of zeros are zeros
 pub chop_zeros : (n size : ℕ) → chop n size (zeros (size * n)) ≡ replicate n (zeros size)

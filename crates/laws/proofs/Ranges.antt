@@ -293,6 +293,16 @@ filled_more f d p h =
     rw (drop-cons d p 0 h, range_snoc 0 p, zero-add, map-append, set_at (map f (range 0 p)) (get_or d p 0) (drop (suc p) d) (f p) p len)
     (sym (append_snoc (map f (range 0 p)) (f p) (drop (suc p) d)))
 
+-- a loop over a range: one page more that passes, and one that fails
+pub every_more : (test : ℕ → Bool) (first i : ℕ) → every test (range first i) ≡ true → test (first + i) ≡ true
+    → every test (range first (suc i)) ≡ true
+unfolding every
+every_more test first i e t = rw (range_snoc first i, every_append test (range first i) ((first + i) ∷ []), e, t)
+
+pub every_fails : (test : ℕ → Bool) (first n p : ℕ) → first ≤ p → p < first + n → test p ≡ false → every test (range first n) ≡ false
+every_fails test first n p l h t =
+    by_test (every test (range first n)) (λ e. absurd (true≢false (sym (every_range→ test first n e p l h) ∙ t))) (λ e. e)
+
 -- tests that agree on a range
 pub every_same : (test test' : ℕ → Bool) (first n : ℕ) → ((p : ℕ) → first ≤ p → p < first + n → test p ≡ test' p)
     → every test (range first n) ≡ every test' (range first n)

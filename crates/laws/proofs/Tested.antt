@@ -1,5 +1,5 @@
 -- Laws about what the tests of outcome 3 have shown of a machine, once they are passed.
-use mathlib.Core.Path.{◌≡◌, ◌∙◌}
+use mathlib.Core.Path.{◌≡◌, sym, ◌∙◌}
 use mathlib.Core.Bool.{true, false, not, ◌&&◌, ◌||◌, and-eq-true_iff}
 use mathlib.Core.List.{List, []}
 use Prim.Native.Nat.{ℕ, ◌*◌, ◌<◌}
@@ -7,15 +7,15 @@ use native.Mathlib.Omega.{arith}
 use lib.Dec.{leb, ltb}
 use lib.ListN.{length, get_or}
 use borrow.Author.Tests.{leb-true, leb-false, not-false}
-use Rattle.rules.specs.Words.{between, exists, records, record_size}
-use Rattle.rules.specs.Machine.{fields, is_live, holds, N}
+use Rattle.rules.specs.Words.{between, exists, page_size, records, record_size}
+use Rattle.rules.specs.Machine.{fields, is_live, holds, N, record_at, vcpu}
 use Rattle.rules.specs.Sound.{bad_names, bad_record}
 use Rattle.rules.specs.Call.{bad_sheet, bad_machine}
 use Rattle.rules.specs.Flat.{Buffers, parts, parted, memory_sized, sheet_sized, well_sized}
 use Rattle.laws.specs.Tested.{Tested, Names}
 use Rattle.laws.proofs.Parts.{length_parts}
 use Rattle.laws.proofs.Ranges.{or_false, absent→}
-use Rattle.laws.proofs.FlatSteps.{sized_sheet}
+use Rattle.laws.proofs.FlatSteps.{sized_sheet, length_pages}
 
 named : (n : ℕ) (r : List ℕ) → bad_names n r ≡ false → Names n r
 unfolding bad_names between
@@ -39,10 +39,21 @@ unfolding bad_record
 names n r e live =
     named n r (rw live at (or_false (ltb 1 (fields r).live || ltb 1 (fields r).running || ltb 1 (fields r).holding) (is_live r && bad_names n r) e).1)
 
+-- the caller's VMPL, as its byte is read
+pub vmpl_is : (caller : ℕ) (b : Buffers) (v : ℕ) → v ≡ get_or (get_or (parts record_size b.sheet) caller []) 1 0 → (vcpu (parted b) caller).vmpl ≡ v
+unfolding vcpu record_at fields parted
+vmpl_is caller b v e = sym e
+
 module _ (b : Buffers) (caller : ℕ) (t : Tested b caller) where
   sizes_both : (memory_sized b.table b.memory ≡ true) × (sheet_sized b.sheet ≡ true)
   unfolding well_sized
   sizes_both = (and-eq-true_iff (memory_sized b.table b.memory) (sheet_sized b.sheet)).0 t.sized
+
+  pub pages_tested : length (parts page_size b.memory) ≡ length b.table
+  pages_tested = length_pages b.table b.memory sizes_both.0
+
+  pub memory_tested : memory_sized b.table b.memory ≡ true
+  memory_tested = sizes_both.0
 
   pub sheet_tested : length b.sheet ≡ record_size * records
   sheet_tested = sized_sheet b.sheet sizes_both.1

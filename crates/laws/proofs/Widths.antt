@@ -4,8 +4,9 @@ use mathlib.Core.List.{List, [], ◌∷◌, ◌++◌}
 use Prim.Native.Nat.{ℕ, zero, suc, ◌+◌, ◌*◌, ◌/◌, ◌%◌, ◌^◌, ◌<◌}
 use native.Mathlib.Nat.{zero-add, suc-add, add-suc, add-zero, mul-add, mul_assoc, add_assoc, pow-succ', pow-zero, one-mul, div-div-eq-div-mul, div-one, pow-suc, mod-lt, one-le-pow}
 use native.Mathlib.Nat.{add-mul-div_left, add-mul-mod_self_left, div-eq_of_lt, mod-eq_of_lt}
-use lib.ListN.{length, set}
-use lib.Seq.{sets}
+use lib.ListN.{length, get_or, set, take}
+use native.Mathlib.Omega.{arith}
+use lib.Seq.{sets, take-suc, length-take-le}
 use lib.Dec.{lit<}
 use lib.Arith.{mod-mul, digits_mod, digits_div}
 use Rattle.rules.specs.Words.{number, little}
@@ -28,6 +29,12 @@ little_add (suc a) b n = rw (suc-add, little_add a b (n / 256)) (simp (div-div-e
 pub sets_append : {A : Type 0} (l : List A) (i : ℕ) (xs ys : List A) → sets l i (xs ++ ys) ≡ sets (sets l i xs) (i + length xs) ys
 sets_append l i [] ys = simp add-zero
 sets_append l i (x ∷ xs) ys = sets_append (set l i x) (suc i) xs ys ∙ simp (add-suc, suc-add)
+
+-- one store more
+pub sets_more : {A : Type 0} (l : List A) (i : ℕ) (vs : List A) (j : ℕ) (d : A) → j < length vs
+    → set (sets l i (take j vs)) (i + j) (get_or vs j d) ≡ sets l i (take (suc j) vs)
+sets_more l i vs j d h =
+    rw (take-suc vs j d h, sets_append l i (take j vs) (get_or vs j d ∷ []), length-take-le j vs (omega arith))
 
 -- only the lowest bytes matter
 pub little_mod : (w n : ℕ) → little w (n % 256 ^ w) ≡ little w n

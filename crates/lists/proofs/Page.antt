@@ -7,7 +7,7 @@ use lib.Dec.{eqb}
 use lib.ListN.{length}
 use borrow.Author.Tests.{not-false}
 use Rattle.std.specs.Prelude.{Ok, Err}
-use Rattle.rules.specs.Machine.{N, page_of, offset_of, table_byte, plain, calling_area, owned_by, usable}
+use Rattle.rules.specs.Machine.{Lent, N, page_of, offset_of, table_byte, plain, calling_area, owned_by, usable}
 use Rattle.rules.specs.Lists.{bad_list_page}
 use Rattle.rules.specs.Flat.{Buffers, parted}
 use Rattle.laws.specs.Alone.{table_alone}
@@ -19,11 +19,17 @@ pub accepted : {A E : Type 0} (t : Bool) (a x : A) (why : E) → Ok a ≡ cond t
 accepted true a x why told = cc
 accepted false a x why told = (refl, cc)
 
-module _ (vmpl gpa : ℕ) (b : Buffers) where
+module _ (vmpl gpa : ℕ) (m : Lent) where
   -- the test of a list's page looks at the table alone
-  pub list_page_table : bad_list_page vmpl gpa (parted b) ≡ bad_list_page vmpl gpa (table_alone b.table)
-  unfolding bad_list_page owned_by table_byte parted
-  list_page_table = rw (usable_alone vmpl (parted b) (page_of gpa))
+  pub list_page_table : bad_list_page vmpl gpa m ≡ bad_list_page vmpl gpa (table_alone m.table)
+  unfolding bad_list_page owned_by table_byte
+  list_page_table = rw (usable_alone vmpl m (page_of gpa))
+
+module _ (vmpl gpa : ℕ) (b : Buffers) where
+  -- the same of a machine that is lent as bytes
+  pub list_page_bytes : bad_list_page vmpl gpa (parted b) ≡ bad_list_page vmpl gpa (table_alone b.table)
+  unfolding parted
+  list_page_bytes = list_page_table vmpl gpa (parted b)
 
   -- a list's page that passes is a page of the machine
   pub page_below : bad_list_page vmpl gpa (parted b) ≡ false → page_of gpa < length b.table
