@@ -3,6 +3,7 @@
 #![tactic(auto)]
 
 ghost use Rattle.std.specs.Prelude.{◌≡◌, [], ◌∷◌, ◌+◌, ◌*◌, ◌≤◌, length, get_or};
+ghost use Rattle.std.proofs.lemmas.List.Edits.{sets};
 ghost use Rattle.rules.specs.Words.{little, number};
 ghost use Rattle.rules.specs.Machine.{written};
 ghost use Rattle.rules.specs.Flat.{parts};
@@ -53,11 +54,22 @@ pub fn put_number<N: Little>(s: &mut [u8], size: usize, p: usize, offset: usize,
     x.write(s, at);
 }
 
-#[tactic(auto, using(laws::proofs::Parts::parts_written, crate::proofs::Pieces::sets_piece))]
+// Copies bytes over the front of a slice. The loop is compiled as one: a copy of the library's would need `memmove` of whoever links the core for C.
+#[tactic(auto, using(crate::proofs::Copied::none_yet, crate::proofs::Copied::one_more, crate::proofs::Copied::all_copied))]
+pub fn copy(s: &mut [u8], bytes: &[u8])
+    requires { length bytes.now ≤ length s.old }
+    ensures { s.new ≡ sets s.old 0 bytes.now }
+{
+    for i in 0..bytes.len() {
+        s[i] = bytes[i];
+    }
+}
+
+#[tactic(auto, using(laws::proofs::Parts::parts_written, laws::proofs::Parts::sets_tail))]
 pub fn put_bytes(s: &mut [u8], size: usize, p: usize, offset: usize, bytes: &[u8])
     requires { Place s.old size p offset (length bytes.now) }
     ensures { parts size s.new ≡ written p offset bytes.now (parts size s.old) }
 {
     let at = start(s, size, p, offset);
-    s[at..at + bytes.len()].copy_from_slice(bytes);
+    copy(&mut s[at..], bytes);
 }
