@@ -1,4 +1,4 @@
-// A record: read whole, written whole, and its two fields that change alone.
+// A record: read whole, written whole, and its fields that change alone.
 ghost use Rattle.std.specs.Prelude.{◌≡◌, ◌<◌, [], ◌∷◌, set};
 ghost use Rattle.rules.specs.Words.{records, record_size, little};
 ghost use Rattle.rules.specs.Machine.{written, laid_out};
@@ -9,25 +9,25 @@ use crate::{RECORD_SIZE, Sheet};
 use rules::Vcpu;
 
 // Where the fields of a record stand.
-const LIVE: usize = 0;
+pub const LIVE: usize = 0;
 
-const VMPL: usize = 1;
+pub const VMPL: usize = 1;
 
-const RUNNING: usize = 2;
+pub const RUNNING: usize = 2;
 
-const HOLDING: usize = 3;
+pub const HOLDING: usize = 3;
 
-const APIC_ID: usize = 4;
+pub const APIC_ID: usize = 4;
 
-const VMSA: usize = 8;
+pub const VMSA: usize = 8;
 
-const CALLING: usize = 12;
+pub const CALLING: usize = 12;
 
-const POOL_PAGE: usize = 16;
+pub const POOL_PAGE: usize = 16;
 
-const SPARE: usize = 20;
+pub const SPARE: usize = 20;
 
-const FEATURES: usize = 24;
+pub const FEATURES: usize = 24;
 
 // A field that a caller leaves alone costs nothing: it is not read.
 #[tactic(auto, unfolding(rules::specs::Machine::fields, rules::specs::Words::record_size))]
@@ -75,10 +75,19 @@ pub fn set_calling(sheet: &mut Sheet, i: usize, page: u32)
     parts::put_number(sheet, RECORD_SIZE, i, CALLING, page);
 }
 
+// One of the first four bytes, or any other.
+#[tactic(auto, unfolding(rules::specs::Words::record_size))]
+pub fn set_byte(sheet: &mut Sheet, i: usize, field: usize, b: u8)
+    requires { (i < records) × (field < record_size) }
+    ensures { parts record_size sheet.new ≡ written i field (b ∷ []) (parts record_size sheet.old) }
+{
+    parts::put_byte(sheet, RECORD_SIZE, i, field, b);
+}
+
 #[tactic(auto, unfolding(rules::specs::Words::record_size))]
 pub fn set_running(sheet: &mut Sheet, i: usize, running: u8)
     requires { i < records }
     ensures { parts record_size sheet.new ≡ written i 2 (running ∷ []) (parts record_size sheet.old) }
 {
-    parts::put_byte(sheet, RECORD_SIZE, i, RUNNING, running);
+    set_byte(sheet, i, RUNNING, running);
 }
