@@ -12,7 +12,7 @@ ghost use Rattle.machine.specs.Held.{bytes_of, lent_of, SameBuffers};
 use machine::held::Machine;
 use pages::byte::Owner;
 use pages::gpa::Gpa;
-use pages::vmsa::{EFER, SVME};
+use pages::vmsa::SVME;
 use rules::{Code, Progress, Refusal, Vcpu};
 use sheet::live::{Named, lowest};
 
@@ -23,8 +23,8 @@ fn clear_svme(machine: &mut Machine, page: usize)
     ensures same { SameBuffers machine.old machine.new }
     ensures done { lent_of machine.new ≡ clear_svme page (lent_of machine.old) }
 {
-    let efer: u64 = machine.number(page, EFER);
-    machine.write(page, EFER, efer & !SVME);
+    let efer: u64 = machine.number(page, 0xD0);
+    machine.write(page, 0xD0, efer & !SVME);
 }
 
 // The pool page that a record holds is free, if it holds one.

@@ -9,9 +9,7 @@ ghost use Rattle.rules.specs.Flat.{parts};
 
 use crate::PAGE_SIZE;
 
-// Where EFER stands, and its bit 12.
-pub const EFER: usize = 0xD0;
-
+// EFER's bit 12.
 pub const SVME: u64 = 0x1000;
 
 pub fn vmpl_of(memory: &[u8], page: usize) -> u8
@@ -32,7 +30,7 @@ pub fn efer_of(memory: &[u8], page: usize) -> u64
     requires { page < length (parts page_size memory.now) }
     ensures { result ≡ efer (get_or (parts page_size memory.now) page []) }
 {
-    parts::number(memory, PAGE_SIZE, page, EFER)
+    parts::number(memory, PAGE_SIZE, page, 0xD0)
 }
 
 // VMPL not 1 to 3, or EFER bit 12 clear.
