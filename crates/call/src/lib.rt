@@ -4,6 +4,7 @@
 
 pub mod handled;
 pub mod last;
+mod lent;
 
 ghost use Rattle.std.specs.Prelude.{◌≡◌, ◌<◌};
 ghost use Rattle.rules.specs.Words.{records};
@@ -75,7 +76,7 @@ fn come_back(machine: &mut Machine, g: &mut Registers, caller: usize) -> Outcome
     ensures done { Rattle.rules.specs.Call.call caller (posed g.old machine.old)
         ≡ record { answer = result; after = posed g.new machine.new } }
 {
-    if handled::pending(machine, caller) == 0 || g.reason != 0x403 {
+    if handled::pending_of(machine, caller) == 0 || g.reason != 0x403 {
         return Outcome::NoCall;
     }
     let before = *g;
@@ -91,6 +92,7 @@ fn left(outcome: Outcome, registers: Registers) -> Called
 }
 
 // A call by a vCPU, with its registers.
+#[tactic(auto, using(crate::proofs::Outcomes::call_unsized), unfolding(rules::specs::Promises::CallPromise, rules::specs::Flat::well_sized, rules::specs::Flat::sheet_sized, rules::specs::Words::record_size, rules::specs::Words::records))]
 pub fn call(
     memory: &mut [u8],
     table: &mut [u8],

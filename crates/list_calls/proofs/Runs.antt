@@ -1,7 +1,8 @@
 -- The head of a list, and a run over its entries, one at a time.
 -- Assumes nothing.
-use mathlib.Core.Path.{◌≡◌, sym, ◌∙◌, ap}
+use mathlib.Core.Path.{◌≡◌, sym, ◌∙◌, ap₂}
 use mathlib.Core.Bool.{cond}
+use mathlib.Core.List.{List}
 use Prim.Native.Nat.{ℕ, suc, ◌+◌, ◌-◌, ◌<◌}
 use native.Mathlib.Omega.{arith}
 use native.Mathlib.Numerals.{add-one}
@@ -13,35 +14,47 @@ use Rattle.rules.specs.declared.Refusal.TheVariants.{Address}
 use Rattle.rules.specs.declared.Progress.TheVariants.{Success, Incomplete}
 use Rattle.rules.specs.declared.Entry.{Entry}
 use Rattle.rules.specs.declared.ListCall.{ListCall}
+use Rattle.rules.specs.Words.{page_size}
 use Rattle.rules.specs.Machine.{Lent, page_of, vcpu}
 use Rattle.rules.specs.Lists.{bad_list_page, list_count, list_entry, store_index, read_entry, carry_out_all, after_entry, run}
-use Rattle.laws.specs.Alone.{table_alone}
-use Rattle.machine.specs.Held.{bytes_of}
-use Rattle.machine.specs.declared.held.Machine.{Machine}
-use Rattle.lists.proofs.Page.{list_page_table, accepted, page_below}
+use Rattle.rules.specs.Flat.{buffers, parts, parted}
+use Rattle.laws.specs.Alone.{table_alone, without_sheet}
+use Rattle.laws.specs.Tested.{Tested}
+use Rattle.laws.proofs.Tested.{pages_tested}
+use Rattle.lists.proofs.Page.{list_page_bytes, accepted, page_below}
+use Rattle.effects.proofs.Laws.{all_after}
 
--- a list's page that is given is one of the table's
-pub list_below : (vmpl rcx p : ℕ) (m : Machine) (told : Result ℕ Refusal) → told ≡ cond (bad_list_page vmpl rcx (table_alone m.table.now)) (Err Address) (Ok (page_of rcx))
-    → told ≡ Ok p → page_of rcx < length m.table.now
-list_below vmpl rcx p m told is ok = page_below vmpl rcx (bytes_of m) (list_page_table vmpl rcx (bytes_of m) ∙ (accepted _ p (page_of rcx) _ (sym ok ∙ is)).0)
+-- a list's page that is given is one of a tested machine's memory
+pub list_below : (memory table sheet : List ℕ) (caller vmpl rcx p : ℕ) (told : Result ℕ Refusal) → Tested (buffers memory table sheet) caller
+    → told ≡ cond (bad_list_page vmpl rcx (table_alone table)) (Err Address) (Ok (page_of rcx)) → told ≡ Ok p → page_of rcx < length (parts page_size memory)
+list_below memory table sheet caller vmpl rcx p told t is ok =
+    let b = buffers memory table sheet in
+    rw (pages_tested b caller t) (page_below vmpl rcx b (list_page_bytes vmpl rcx b ∙ (accepted _ p (page_of rcx) _ (sym ok ∙ is)).0))
 
--- a run of which some entries are left
-module _ (call : ListCall) (caller rcx end k : ℕ) (more : k < end) (m : Lent) where
-  left : end - k ≡ suc (end - (k + 1))
-  left = omega arith
+module _ (call : ListCall) (caller rcx end k : ℕ) (memory table sheet : List ℕ) where
+  abbrev m : Lent
+  m = parted (buffers memory table sheet)
 
-  pub run_more : (entry : Entry) → Ok entry ≡ read_entry call (vcpu m caller).vmpl rcx (list_entry k rcx m) m
-      → run call caller rcx (end - k) k m ≡ run call caller rcx (end - (k + 1)) (k + 1) (carry_out_all entry.wish (vcpu m caller).vmpl entry.first entry.count m)
-  unfolding run after_entry
-  run_more entry read = rw (left, ← read) (ap (λ (n : ℕ). run call caller rcx (end - (k + 1)) n (carry_out_all entry.wish (vcpu m caller).vmpl entry.first entry.count m)) (sym (add-one k)))
+  -- a run of which some entries are left, for a caller of this VMPL
+  module _ (more : k < end) (vmpl : ℕ) (asks : vmpl ≡ (vcpu m caller).vmpl) where
+    left : end - k ≡ suc (end - (k + 1))
+    left = omega arith
 
-  pub run_refused : (why : Refusal) → Err why ≡ read_entry call (vcpu m caller).vmpl rcx (list_entry k rcx m) m
-      → run call caller rcx (end - k) k m ≡ record { answer = Err why; after = store_index k rcx m }
-  unfolding run after_entry
-  run_refused why read = rw (left, ← read)
+    pub run_more : (entry : Entry) (memory' table' : List ℕ) → Ok entry ≡ read_entry call vmpl rcx (list_entry k rcx m) m
+        → carry_out_all entry.wish vmpl entry.first entry.count (without_sheet memory table) ≡ without_sheet memory' table'
+        → run call caller rcx (end - k) k m ≡ run call caller rcx (end - (k + 1)) (k + 1) (parted (buffers memory' table' sheet))
+    unfolding run after_entry
+    run_more entry memory' table' read done =
+        let after = all_after entry.wish vmpl entry.first entry.count memory table sheet memory' table' done in
+        rw (left, ← asks, ← read) (ap₂ (run call caller rcx (end - (k + 1))) (sym (add-one k)) (rw (← asks) after))
 
--- one of which none is left
-module _ (call : ListCall) (caller rcx end k : ℕ) (none : end ≡ k) (m : Lent) where
-  pub run_ends : run call caller rcx (end - k) k m ≡ record { answer = Ok (cond (ltb end (list_count rcx m)) Incomplete Success); after = store_index end rcx m }
+    pub run_refused : (why : Refusal) (after : Lent) → Err why ≡ read_entry call vmpl rcx (list_entry k rcx m) m → store_index k rcx m ≡ after
+        → run call caller rcx (end - k) k m ≡ record { answer = Err why; after = after }
+    unfolding run after_entry
+    run_refused why after read store = rw (left, ← asks, ← read, store)
+
+  -- one of which none is left
+  pub run_ends : end ≡ k → (after : Lent) → store_index end rcx m ≡ after
+      → run call caller rcx (end - k) k m ≡ record { answer = Ok (cond (ltb end (list_count rcx m)) Incomplete Success); after = after }
   unfolding run
-  run_ends = let left : end - k ≡ 0 = omega arith in rw (left, none)
+  run_ends none after store = let left : end - k ≡ 0 = omega arith in rw (left, ← none, store)
