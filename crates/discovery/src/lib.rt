@@ -83,8 +83,9 @@ fn put_fields(bytes: &mut [u8], at: usize, d: Discovery)
     d.size.write(bytes, at + 8);
     d.area.write(bytes, at + 16);
     d.version.write(bytes, at + 24);
-    // The VMPL, and the three reserved bytes.
-    u32::from(d.vmpl).write(bytes, at + 28);
+    // The VMPL with the first reserved byte, then the other two.
+    u16::from(d.vmpl).write(bytes, at + 28);
+    0_u16.write(bytes, at + 30);
 }
 
 // The writer: size 0 is tested last.
