@@ -4,9 +4,9 @@ use mathlib.Core.Path.{◌≡◌, sym, ◌∙◌}
 use mathlib.Core.List.{List}
 use Prim.Native.Nat.{ℕ}
 use lib.ListN.{set}
-use Rattle.std.specs.Prelude.{Option, Some, None}
+use Rattle.std.specs.Prelude.{Option}
 use Rattle.rules.specs.Machine.{Lent, needs_page, amend}
-use Rattle.rules.specs.Calls.{Asked, free_page, new_record, created}
+use Rattle.rules.specs.Calls.{Asked, new_record, created}
 use Rattle.laws.proofs.Change.{change_table, change_memory, change_sheet}
 use Rattle.laws.proofs.Ranges.{by_test}
 use Rattle.create_call.specs.Wanted.{pool_of, both_marked, marked}

@@ -1,3 +1,4 @@
+pub mod Blank
 pub mod Cleared
 pub mod Found
 pub mod Masks

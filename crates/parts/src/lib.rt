@@ -54,7 +54,7 @@ pub fn put_number<N: Little>(s: &mut [u8], size: usize, p: usize, offset: usize,
     x.write(s, at);
 }
 
-// Copies bytes over the front of a slice. The loop is compiled as one: a copy of the library's would need `memmove` of whoever links the core for C.
+// Copies bytes over the front of a slice. It stays a loop when it is compiled: the library's copy would need `memmove` of whoever links the core for C.
 #[tactic(auto, using(crate::proofs::Copied::none_yet, crate::proofs::Copied::one_more, crate::proofs::Copied::all_copied))]
 pub fn copy(s: &mut [u8], bytes: &[u8])
     requires { length bytes.now ≤ length s.old }

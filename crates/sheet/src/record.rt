@@ -75,7 +75,7 @@ pub fn set_calling(sheet: &mut Sheet, i: usize, page: u32)
     parts::put_number(sheet, RECORD_SIZE, i, CALLING, page);
 }
 
-// One of the first four bytes, or any other.
+// One byte of a record, by its place in it.
 #[tactic(auto, unfolding(rules::specs::Words::record_size))]
 pub fn set_byte(sheet: &mut Sheet, i: usize, field: usize, b: u8)
     requires { (i < records) × (field < record_size) }

@@ -1,5 +1,5 @@
 -- What the tests have shown: the caller's record is one of the sheet's, and memory has a page for each byte of the table.
-use Rattle.rules.specs.Flat.{buffers, memory_sized}
+use Rattle.rules.specs.Flat.{memory_sized}
 use Rattle.laws.proofs.FlatSteps.{sizes}
 use Rattle.laws.proofs.Tested.{caller_below, pages_tested, memory_tested}
 use Rattle.create_call.proofs.create.Goals as goal

@@ -1,4 +1,3 @@
-use mathlib.Core.Path.{refl}
 use Rattle.rules.specs.Machine.{page_at}
 use Rattle.rules.specs.Calls.{free_page, new_record}
 use Rattle.rules.specs.Flat.{parted, memory_sized}
