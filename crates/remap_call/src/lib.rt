@@ -1,9 +1,10 @@
 // 0 Remap: the caller's calling area moves to another page. Nothing is assumed.
 #![tactic(auto)]
 
-ghost use Rattle.std.specs.Prelude.{◌≡◌, ◌<◌, length};
+ghost use Rattle.std.specs.Prelude.{◌≡◌, ◌<◌, cond, eqb, length};
 ghost use Rattle.rules.specs.Words.{records};
 ghost use Rattle.rules.specs.Answers.{Answered};
+ghost use Rattle.rules.specs.Machine.{own, plain, change};
 ghost use Rattle.rules.specs.Calls.{remap, remapped};
 ghost use Rattle.laws.specs.Tested.{Tested};
 ghost use Rattle.machine.specs.Held.{bytes_of, lent_of, SameBuffers};
@@ -13,8 +14,20 @@ use pages::byte::{Owner, is_owned};
 use pages::gpa::Gpa;
 use rules::{Code, Progress, Refusal};
 
+// The old page turns plain, unless it is the new one too.
+fn leave(machine: &mut Machine, old: usize, new: usize)
+    requires { old < length machine.old.table.now }
+    ensures same { SameBuffers machine.old machine.new }
+    ensures done { lent_of machine.new
+        ≡ cond (eqb old new) (lent_of machine.old) (change (own plain) old (lent_of machine.old)) }
+{
+    if old != new {
+        machine.set_owner(old, Owner::Plain);
+    }
+}
+
 // The old page turns plain, the new one calling and named by the record, and byte 0 of each is 0. They may be the same.
-#[tactic(auto, using(laws::proofs::FlatSteps::sizes), unfolding(rules::specs::Words::page_size, rules::specs::Words::most_pages))]
+#[tactic(auto, using(laws::proofs::FlatSteps::sizes), unfolding(rules::specs::Calls::remapped, rules::specs::Words::page_size, rules::specs::Words::most_pages))]
 fn move_area(machine: &mut Machine, caller: usize, old: usize, new: usize)
     requires caller { caller < records }
     requires old { old < length machine.old.table.now }
@@ -22,7 +35,7 @@ fn move_area(machine: &mut Machine, caller: usize, old: usize, new: usize)
     ensures same { SameBuffers machine.old machine.new }
     ensures done { lent_of machine.new ≡ remapped caller old new (lent_of machine.old) }
 {
-    machine.set_owner(old, Owner::Plain);
+    leave(machine, old, new);
     machine.set_owner(new, Owner::CallingArea);
     machine.set_calling(caller, new as u32);
     machine.write_byte(old, 0, 0);
