@@ -28,38 +28,35 @@ impl Guest {
         }
     }
 
-    #[inline(never)]
-    fn refused(&self) -> io::Result<()> {
-        self.out.write_all(b"A store or a mark is refused.\n")
-    }
-
-    // The night has no store and no mark that is refused; it would be seen. A script may have millions of stores, so that what is never met is apart.
-    #[inline(always)]
+    // The night has no store and no mark that is refused; it would be seen.
     fn seen(&self, done: Result<(), Refused>) -> io::Result<()> {
         match done {
             Ok(()) => Ok(()),
-            Err(Refused) => self.refused(),
+            Err(Refused) => self.out.write_all(b"A store or a mark is refused.\n"),
         }
     }
 
     // A store at a gPA.
-    fn store(&mut self, gpa: usize, bytes: &[u8]) -> io::Result<()> {
+    fn store(&mut self, gpa: usize, bytes: &[u8]) -> Result<(), Refused> {
         let (page, offset) = (gpa / 4096, gpa % 4096);
-        let done = monitor::steps::store(&mut self.memory, &self.table, 1, page, offset, bytes);
-        self.seen(done)
+        monitor::steps::store(&mut self.memory, &self.table, 1, page, offset, bytes)
     }
 
     // A number of eight bytes, of which two are set.
-    fn put(&mut self, gpa: usize, n: u32) -> io::Result<()> {
+    fn put(&mut self, gpa: usize, n: u32) -> Result<(), Refused> {
         self.store(gpa, &u64::from(n % 65536).to_le_bytes())
     }
 
-    // A number, and an entry after it again and again.
+    // A number, and an entry after it again and again. A script may have millions of stores: what is done is not asked after.
     pub fn write(&mut self, list: List) -> io::Result<()> {
         let gpa = list.gpa as usize;
-        self.put(gpa, list.number)?;
+        let done = self.put(gpa, list.number);
+        self.seen(done)?;
         for i in 1..=list.count as usize {
-            self.put(gpa + 8 * i, list.entry)?;
+            let done = self.put(gpa + 8 * i, list.entry);
+            if done.is_err() {
+                self.seen(done)?;
+            }
         }
         Ok(())
     }
@@ -76,7 +73,8 @@ impl Guest {
 
     // A call by a record, whose pending byte is set first.
     pub fn call(&mut self, asked: Registers, caller: usize) -> io::Result<Called> {
-        self.store(self.calling(caller), &[1])?;
+        let done = self.store(self.calling(caller), &[1]);
+        self.seen(done)?;
         let (memory, table, sheet) = (&mut self.memory, &mut self.table, &mut self.sheet);
         Ok(call::call(memory, table, sheet, asked, caller))
     }
