@@ -1,6 +1,6 @@
 -- The head of a list, and a run over its entries, one at a time.
 -- Assumes nothing.
-use mathlib.Core.Path.{◌≡◌, sym, ◌∙◌, ap₂}
+use mathlib.Core.Path.{◌≡◌, sym, ◌∙◌, ap}
 use mathlib.Core.Bool.{cond}
 use mathlib.Core.List.{List}
 use Prim.Native.Nat.{ℕ, suc, ◌+◌, ◌-◌, ◌<◌}
@@ -31,30 +31,45 @@ list_below memory table sheet caller vmpl rcx p told t is ok =
     let b = buffers memory table sheet in
     rw (pages_tested b caller t) (page_below vmpl rcx b (list_page_bytes vmpl rcx b ∙ (accepted _ p (page_of rcx) _ (sym ok ∙ is)).0))
 
+-- a run of which some entries are left
+module _ (call : ListCall) (caller rcx end k : ℕ) (more : k < end) (m : Lent) where
+  left : end - k ≡ suc (end - (k + 1))
+  left = omega arith
+
+  pub run_more : (entry : Entry) → Ok entry ≡ read_entry call (vcpu m caller).vmpl rcx (list_entry k rcx m) m
+      → run call caller rcx (end - k) k m ≡ run call caller rcx (end - (k + 1)) (k + 1) (carry_out_all entry.wish (vcpu m caller).vmpl entry.first entry.count m)
+  unfolding run after_entry
+  run_more entry read = rw (left, ← read) (ap (λ (n : ℕ). run call caller rcx (end - (k + 1)) n (carry_out_all entry.wish (vcpu m caller).vmpl entry.first entry.count m)) (sym (add-one k)))
+
+  pub run_refused : (why : Refusal) → Err why ≡ read_entry call (vcpu m caller).vmpl rcx (list_entry k rcx m) m
+      → run call caller rcx (end - k) k m ≡ record { answer = Err why; after = store_index k rcx m }
+  unfolding run after_entry
+  run_refused why read = rw (left, ← read)
+
+-- one of which none is left
+module _ (call : ListCall) (caller rcx end k : ℕ) (none : end ≡ k) (m : Lent) where
+  pub run_ends : run call caller rcx (end - k) k m ≡ record { answer = Ok (cond (ltb end (list_count rcx m)) Incomplete Success); after = store_index end rcx m }
+  unfolding run
+  run_ends = let left : end - k ≡ 0 = omega arith in rw (left, none)
+
+-- the same of a machine that is lent as bytes
 module _ (call : ListCall) (caller rcx end k : ℕ) (memory table sheet : List ℕ) where
   abbrev m : Lent
   m = parted (buffers memory table sheet)
 
-  -- a run of which some entries are left, for a caller of this VMPL
+  -- for a caller of this VMPL
   module _ (more : k < end) (vmpl : ℕ) (asks : vmpl ≡ (vcpu m caller).vmpl) where
-    left : end - k ≡ suc (end - (k + 1))
-    left = omega arith
-
-    pub run_more : (entry : Entry) (memory' table' : List ℕ) → Ok entry ≡ read_entry call vmpl rcx (list_entry k rcx m) m
+    pub run_more_bytes : (entry : Entry) (memory' table' : List ℕ) → Ok entry ≡ read_entry call vmpl rcx (list_entry k rcx m) m
         → carry_out_all entry.wish vmpl entry.first entry.count (without_sheet memory table) ≡ without_sheet memory' table'
         → run call caller rcx (end - k) k m ≡ run call caller rcx (end - (k + 1)) (k + 1) (parted (buffers memory' table' sheet))
-    unfolding run after_entry
-    run_more entry memory' table' read done =
+    run_more_bytes entry memory' table' read done =
         let after = all_after entry.wish vmpl entry.first entry.count memory table sheet memory' table' done in
-        rw (left, ← asks, ← read) (ap₂ (run call caller rcx (end - (k + 1))) (sym (add-one k)) (rw (← asks) after))
+        run_more call caller rcx end k more m entry (rw (← asks) read) ∙ ap (run call caller rcx (end - (k + 1)) (k + 1)) (rw (← asks) after)
 
-    pub run_refused : (why : Refusal) (after : Lent) → Err why ≡ read_entry call vmpl rcx (list_entry k rcx m) m → store_index k rcx m ≡ after
+    pub run_refused_bytes : (why : Refusal) (after : Lent) → Err why ≡ read_entry call vmpl rcx (list_entry k rcx m) m → store_index k rcx m ≡ after
         → run call caller rcx (end - k) k m ≡ record { answer = Err why; after = after }
-    unfolding run after_entry
-    run_refused why after read store = rw (left, ← asks, ← read, store)
+    run_refused_bytes why after read store = run_refused call caller rcx end k more m why (rw (← asks) read) ∙ rw store
 
-  -- one of which none is left
-  pub run_ends : end ≡ k → (after : Lent) → store_index end rcx m ≡ after
+  pub run_ends_bytes : end ≡ k → (after : Lent) → store_index end rcx m ≡ after
       → run call caller rcx (end - k) k m ≡ record { answer = Ok (cond (ltb end (list_count rcx m)) Incomplete Success); after = after }
-  unfolding run
-  run_ends none after store = let left : end - k ≡ 0 = omega arith in rw (left, ← none, store)
+  run_ends_bytes none after store = run_ends call caller rcx end k none m ∙ rw store

@@ -107,7 +107,7 @@ impl List {
     }
 
     // `todo` entries from index `start` on. No entry changes the sheet, so the caller's VMPL is asked for once.
-    #[tactic(auto, using(crate::proofs::Runs::run_more, crate::proofs::Runs::run_refused, crate::proofs::Runs::run_ends, sheet::proofs::Whole::vcpu_whole, laws::proofs::Tested::pages_tested, laws::proofs::Tested::caller_below, laws::proofs::Parts::same_parts), unfolding(rules::specs::Answers::entry_code, rules::specs::Words::page_size))]
+    #[tactic(auto, using(crate::proofs::Runs::run_more_bytes, crate::proofs::Runs::run_refused_bytes, crate::proofs::Runs::run_ends_bytes, sheet::proofs::Whole::vcpu_whole, laws::proofs::Tested::pages_tested, laws::proofs::Tested::caller_below, laws::proofs::Parts::same_parts), unfolding(rules::specs::Answers::entry_code, rules::specs::Words::page_size))]
     fn run(
         self,
         memory: &mut [u8],

@@ -78,23 +78,32 @@ pub most_tested : (b : Buffers) (caller : ℕ) → Tested b caller → length b.
 unfolding memory_sized
 most_tested b caller t = (sizes _ _ (memory_tested b caller t)).most
 
--- the pages are given, and then the count n is written, which the definition writes before the gPAs
-pub counted : (vmpl rcx caller n : ℕ) (list : GpaList) (memory table sheet memory' table' memory'' : List ℕ) → Tested (buffers memory table sheet) caller
+-- the pages are given and their gPAs listed, and then the count n is written, which the definition writes before the gPAs
+pub counted : (vmpl rcx n : ℕ) (list : GpaList) (m : Lent) → list ≡ named vmpl rcx → page_of rcx < length m.memory → n ≡ length (take list.room (places is_free 0 m.table))
+    → withdrawn vmpl rcx m
+    ≡ (m ▷ each (give_back list.vmpl) (take list.room (places is_free 0 m.table))
+    ▷ write list.page (list.offset + 8) (gpas (take list.room (places is_free 0 m.table)))
+    ▷ write list.page list.offset (little 2 n))
+unfolding withdrawn withdrawn_pages give_back write with_memory
+counted vmpl rcx n list m e h many =
+    let ps = withdrawn_pages rcx m in
+    rw (many, e, memory_each (λ b. b ▷ own plain ▷ grant vmpl) ps m)
+    (rw (written_apart m.memory (page_of rcx) (offset_of rcx) (offset_of rcx + 8) (little 2 (length ps)) (gpas ps) h (omega (arith, length_little 2 (length ps)))))
+
+-- the same of a tested machine that is lent as bytes, once its list passed the test
+pub counted_bytes : (vmpl rcx caller n : ℕ) (list : GpaList) (memory table sheet memory' table' memory'' : List ℕ) → Tested (buffers memory table sheet) caller
     → Ok list ≡ cond (bad_list_page vmpl rcx (table_alone table)) (Err Address) (Ok (named vmpl rcx))
     → Given list (take list.room (places is_free 0 table)) memory table memory' table' n
     → parts page_size memory'' ≡ written list.page list.offset (little 2 n) (parts page_size memory')
     → withdrawn vmpl rcx (parted (buffers memory table sheet)) ≡ parted (buffers memory'' table' sheet)
-unfolding withdrawn withdrawn_pages give_back write with_memory parted freed
-counted vmpl rcx caller n list memory table sheet memory' table' memory'' t told g wrote =
+unfolding give_back write with_memory parted freed
+counted_bytes vmpl rcx caller n list memory table sheet memory' table' memory'' t told g wrote =
     let m : Lent = parted (buffers memory table sheet) in
-    let f : ℕ → ℕ = λ b. b ▷ own plain ▷ grant vmpl in
-    let ps = withdrawn_pages rcx m in
+    let f : ℕ → ℕ = λ b. b ▷ own plain ▷ grant list.vmpl in
+    let ps = take list.room (places is_free 0 table) in
     let e : list ≡ named vmpl rcx = (accepted _ _ _ _ told).1 in
-    let given : Given (named vmpl rcx) ps memory table memory' table' n = rw e at g in
     let below : page_of rcx < length (parts page_size memory) = rw (pages_tested _ caller t) (rw e at (list_below list vmpl rcx table told)) in
-    let pages : parts page_size memory'' ≡ (withdrawn vmpl rcx m).memory
-    = rw (wrote, e, given.listed, given.many, memory_each f ps m)
-    (written_apart (parts page_size memory) (page_of rcx) (offset_of rcx) (offset_of rcx + 8) (little 2 (length ps)) (gpas ps) below
-    (omega (arith, length_little 2 (length ps)))) in
-    let bytes : table' ≡ (withdrawn vmpl rcx m).table = given.freed ∙ sym (table_each f (change f) (λ p m. refl) ps m) in
-    λ i. record { memory = sym pages i; table = sym bytes i; sheet = sheet_each f ps m i }
+    let pages : parts page_size memory'' ≡ written list.page list.offset (little 2 n) (written list.page (list.offset + 8) (gpas ps) (each (change f) ps m).memory)
+    = rw (wrote, g.listed, memory_each f ps m) in
+    let bytes : table' ≡ (each (change f) ps m).table = g.freed ∙ sym (table_each f (change f) (λ p m. refl) ps m) in
+    counted vmpl rcx n list m e below g.many ∙ (λ i. record { memory = sym pages i; table = sym bytes i; sheet = sheet_each f ps m i })

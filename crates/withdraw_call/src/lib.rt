@@ -90,7 +90,7 @@ fn give_pages(memory: &mut [u8], table: &mut [u8], list: GpaList) -> usize
     taken
 }
 
-#[tactic(auto, using(laws::proofs::Tested::caller_below, laws::proofs::Parts::same_parts, lists::proofs::Page::list_page_bytes, sheet::proofs::Whole::vcpu_whole, crate::proofs::Giving::list_below, laws::proofs::Tested::pages_tested, crate::proofs::Giving::most_tested, crate::proofs::Giving::counted), unfolding(rules::specs::Calls::withdraw, rules::specs::Answers::refuse, rules::specs::Words::multiple, rules::specs::Words::page_size, rules::specs::Machine::offset_of))]
+#[tactic(auto, using(laws::proofs::Tested::caller_below, laws::proofs::Parts::same_parts, lists::proofs::Page::list_page_bytes, sheet::proofs::Whole::vcpu_whole, crate::proofs::Giving::list_below, laws::proofs::Tested::pages_tested, crate::proofs::Giving::most_tested, crate::proofs::Giving::counted_bytes), unfolding(rules::specs::Calls::withdraw, rules::specs::Answers::refuse, rules::specs::Words::multiple, rules::specs::Words::page_size, rules::specs::Machine::offset_of))]
 pub fn withdraw(memory: &mut [u8], table: &mut [u8], sheet: &Sheet, caller: usize, rcx: u64) -> Code
     requires { Tested (buffers memory.old table.old sheet.now) caller }
     ensures { withdraw caller rcx (parted (buffers memory.old table.old sheet.now))
